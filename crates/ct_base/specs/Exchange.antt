@@ -1,0 +1,55 @@
+-- Two ranges of n virtual pages, from a and from b on, change places.
+use Rattle.std.specs.Prelude.{◌≡◌, ◌≢◌, ℕ, ◌+◌, ◌-◌, ◌*◌, ◌/◌, ◌%◌, ◌^◌, ◌<◌, ◌≤◌, ◌⊎◌, nat_lt, nat_le, ◌&&◌, if◌then◌else◌, List, length, slice_set}
+use Rattle.ct_base.specs.Walk.{word, page_at, page_count, IsFresh, AreTables}
+
+-- the page of which page p gets the walk
+unfoldable pub partner : ℕ → ℕ → ℕ → ℕ → ℕ
+partner a b n p =
+    if nat_le a p && nat_lt p (a + n) then p - a + b else (if nat_le b p && nat_lt p (b + n) then p - b + a else p)
+
+-- the ranges do not meet
+abbrev pub Apart : ℕ → ℕ → ℕ → Type 0
+Apart a b n = (a + n ≤ b) ⊎ (b + n ≤ a)
+
+-- page p is in neither range
+pub record Outside (a b n p : ℕ) : Type 0 where
+  pub first : a ≤ p → a + n ≤ p
+  pub second : b ≤ p → b + n ≤ p
+
+-- The tables of new are those of old, but that the walks of the two ranges have changed places.
+pub record Exchanged (old new : List ℕ) (a b n : ℕ) : Type 0 where
+  pub tables : AreTables new
+  pub pages : (p : ℕ) → page_at new 4 p ≡ page_at old 4 (partner a b n p)
+  -- the tables on the way to a page outside stay
+  pub cells : (e p : ℕ) → e ≤ 4 → Outside a b n p → page_at new e (p / 512 ^ (4 - e)) ≡ page_at old e (p / 512 ^ (4 - e))
+  -- the contents of pages stay
+  pub contents : (p o : ℕ) → o < 512 → page_at old 4 p ≢ 0 → word new (page_at old 4 p * 512 + o) ≡ word old (page_at old 4 p * 512 + o)
+  pub fresh : (q : ℕ) → IsFresh old q → IsFresh new q
+  pub count : page_count new ≡ page_count old
+  pub size : length new ≡ length old
+
+-- the tables after the pairs are those of the device
+pub record SameTables (device drafted : List ℕ) : Type 0 where
+  pub tables : AreTables device
+  pub pages : (e x : ℕ) → e ≤ 4 → page_at drafted e x ≡ page_at device e x
+  pub same : AreTables drafted
+  pub count : page_count drafted ≡ page_count device
+  pub size : length drafted ≡ length device
+
+-- for each piece the table of its height plus 1 is there on both sides
+abbrev pub HasTables : List ℕ → ℕ → ℕ → ℕ × ℕ → Type 0
+HasTables img a b piece =
+    (page_at img (3 - piece.1) ((a + piece.0) / 512 ^ (piece.1 + 1)) ≢ 0) × (page_at img (3 - piece.1) ((b + piece.0) / 512 ^ (piece.1 + 1)) ≢ 0)
+
+-- the word of the entry for a piece of height h at virtual page p
+abbrev pub entry_at : List ℕ → ℕ → ℕ → ℕ
+entry_at img p h = page_at img (3 - h) (p / 512 ^ (h + 1)) * 512 + p / 512 ^ h % 512
+
+-- two words change places
+unfoldable pub with_swap : List ℕ → ℕ → ℕ → List ℕ
+with_swap img w1 w2 = slice_set (slice_set img w1 (word img w2)) w2 (word img w1)
+
+-- what the drafted words have of the device's
+pub record SameSize (device drafted : List ℕ) : Type 0 where
+  pub count : page_count drafted ≡ page_count device
+  pub size : length drafted ≡ length device

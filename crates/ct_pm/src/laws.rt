@@ -1,0 +1,26 @@
+// What holds of every history.
+ghost use Rattle.std.specs.Prelude.{◌≡◌, [], ◌∷◌, ℕ, List, Option, Some, Contains, length, ◌<◌};
+ghost use Rattle.ct_pm.specs.declared.step.Step.TheVariants.{Store, Flush, Fence};
+ghost use Rattle.ct_pm.specs.Images.{History, reads, SameLine, IsAllowed, IsSettled, IsWrittenBack};
+ghost use Rattle.ct_pm.specs.Device.{with_steps, QuietOff};
+
+/// After a fence, a line that was written back before it shows what it reads. So where every line was written back,
+/// nothing is pending.
+pub fn a_fence_holds_lines()
+    ensures line { (h : History) (line : ℕ) (image : List ℕ) → IsWrittenBack line h →
+        IsAllowed (record { start = h.start; steps = Fence ∷ h.steps }) image → SameLine line image (reads h) }
+    ensures all { (h : History) → ((line : ℕ) → IsWrittenBack line h) → IsSettled (record { start = h.start; steps = Fence ∷ h.steps }) }
+{}
+
+/// The words as they read are an image that a crash may leave. So what holds of each image holds of them.
+pub fn what_reads_is_allowed()
+    ensures { (h : History) → IsAllowed h (reads h) }
+{}
+
+/// A step is quiet off the word that it stores, and two stretches that are quiet off the same words make one.
+pub fn steps_are_quiet()
+    ensures store { (h : History) (word value : ℕ) → word < length h.start → QuietOff (λ w. w ≡ word) (Some h) (with_steps (Store word value ∷ []) (Some h)) }
+    ensures flush { (told : Option History) (line : ℕ) → QuietOff (λ _. ⊥) told (with_steps (Flush line ∷ []) told) }
+    ensures fence { (told : Option History) → QuietOff (λ _. ⊥) told (with_steps (Fence ∷ []) told) }
+    ensures then { (moved : List ℕ) (old mid new : Option History) → QuietOff (Contains moved) old mid → QuietOff (Contains moved) mid new → QuietOff (Contains moved) old new }
+{}

@@ -1,0 +1,14 @@
+pub mod Below
+pub mod Cut
+pub mod Exchanging
+pub mod Keeps
+pub mod Link
+pub mod MissingLess
+pub mod Pairs
+pub mod Partner
+pub mod Seen
+pub mod Steps
+pub mod Swap
+pub mod Unreached
+pub mod Write
+pub mod Beside

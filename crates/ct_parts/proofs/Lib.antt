@@ -1,0 +1,11 @@
+pub mod Lengths
+pub mod Bytes
+pub mod Change
+pub mod Free
+pub mod Descent
+pub mod Path
+pub mod Says
+pub mod Local
+pub mod Lists
+pub mod Stand
+pub mod Live

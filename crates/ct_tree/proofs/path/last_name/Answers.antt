@@ -1,0 +1,5 @@
+use Rattle.ct_tree.proofs.Walks.{last_texts}
+use Rattle.ct_tree.proofs.path.last_name.Goals as goal
+
+pub returns : goal.returns
+returns c = last_texts _ _ _ c.in-Some.ensures.cases.0

@@ -1,0 +1,9 @@
+//! Laws that hold definitions in place, and need no code: what a crash may leave, by example, and that pieces cover each
+//! offset once.
+//!
+//! There is nothing to run: each function states a law in its contract, over the very definitions that the crates of code
+//! promise by.
+#![tactic(auto)]
+
+pub mod cover;
+pub mod lines;

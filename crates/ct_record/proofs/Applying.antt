@@ -1,0 +1,187 @@
+-- Pairs are applied one after the other.
+use Rattle.std.proofs.Common.{◌≡◌, ◌⊎◌, ℕ, ◌+◌, ◌*◌, ◌/◌, ◌<◌, ◌≤◌, zero, suc, List, Option, Result, length, drop, set, refl, sym, ◌∙◌, ap, ap₂, subst, inl, inr, arith}
+use Rattle.std.specs.Prelude.{slice_index, OnOk}
+use Rattle.std.proofs.lemmas.Bool.{cases_eq}
+use Rattle.ct_pm.specs.declared.step.Step.TheVariants.{Fence}
+use Rattle.ct_pm.specs.Images.{History}
+use Rattle.ct_pm.specs.Device.{AddsStep, LeavesOnly, MakesOnly, NothingPending, SameOff, WrittenBack, QuietOff}
+use Rattle.ct_pm.proofs.Told.{weaker}
+use Rattle.ct_pm.proofs.Quiet.{quiet_then, quiet_settled}
+use Rattle.ct_pm.proofs.Fence.{settled_by_fence}
+use Rattle.ct_pm.proofs.Made.{makes_then, makes_weaker}
+use Rattle.ct_pm.proofs.OneWord.{Replays}
+use Rattle.ct_base.specs.Settled.{HasPages, Pair, with_pairs, pairs_at, pairs_behind, open_pairs, HaveTargets, IsRecord}
+use Rattle.ct_record.specs.Record.{SettlesTo, IsOpen, Stand, IsPlace, AreApplied}
+use Rattle.ct_base.specs.Settled.{Named, Gives}
+use Rattle.ct_image.proofs.Pairs.{length-with_pairs, with_pairs_off, with_pairs_twice, is_named, named_target, named_here, named_more, gives_here}
+use Rattle.ct_record.proofs.Settles.{same_wider, open_alike, open_target, pairs_same, settles_moved}
+
+-- the pairs that are applied
+pub record MayApply (from count : ℕ) (was : List ℕ) : Type 0 where
+  pub inside : from + 2 * count ≤ 16896
+  pub pages : HasPages was
+  pub targets : HaveTargets from count was
+
+-- the first i of them are
+abbrev pub Applied : ℕ → ℕ → List ℕ → List ℕ → Type 0
+Applied from i was words = words ≡ with_pairs (pairs_at from i was) was
+
+module _ {from count i : ℕ} {was words : List ℕ} (may : MayApply from count was) (below : i < count) (so_far : Applied from i was words) where
+  pub stays : (word : ℕ) → word < 16896 → slice_index words word ≡ slice_index was word
+  stays word low =
+      ap (λ (l : List ℕ). slice_index l word) so_far
+      ∙ with_pairs_off (pairs_at from i was) was word (λ named.
+      let target = named_target from count was word may.targets (named_more from count i was word (omega arith) named) in omega (arith, target.0))
+
+  pub size : length words ≡ length was
+  size = ap length so_far ∙ length-with_pairs (pairs_at from i was) was
+
+  pub pair_word : slice_index words (from + 2 * i) ≡ slice_index was (from + 2 * i)
+  pair_word = stays (from + 2 * i) (omega (arith, may.inside))
+
+  pub pair_value : slice_index words (from + 2 * i + 1) ≡ slice_index was (from + 2 * i + 1)
+  pair_value = stays (from + 2 * i + 1) (omega (arith, may.inside))
+
+  pub pair_within : from + 2 * i + 1 < length words
+  pair_within = omega (arith, size, may.inside, may.pages.0, may.pages.1)
+
+  pub target_within : slice_index words (from + 2 * i) < length words
+  target_within = omega (arith, size, pair_word, (may.targets i below).1, may.pages.1)
+
+  pub one_more : (new : List ℕ) → new ≡ set words (slice_index words (from + 2 * i)) (slice_index words (from + 2 * i + 1)) → Applied from (i + 1) was new
+  one_more new is =
+      let more : i + 1 ≡ suc i = omega arith in
+      is
+      ∙ ap₂ (λ (w v : ℕ). set words w v) pair_word pair_value
+      ∙ ap (λ (l : List ℕ). set l (slice_index was (from + 2 * i)) (slice_index was (from + 2 * i + 1))) so_far
+      ∙ ap (λ (n : ℕ). with_pairs (pairs_at from n was) was) (sym more)
+
+  pub either : (new : List ℕ) → (new ≡ words) ⊎ (new ≡ set words (slice_index words (from + 2 * i)) (slice_index words (from + 2 * i + 1))) → AreApplied from count was new
+  either new (inl is) = (i, omega arith, is ∙ so_far)
+  either new (inr is) = (i + 1, omega arith, one_more new is)
+
+  pub names : Named (pairs_at from count was) (slice_index words (from + 2 * i))
+  names = subst (Named (pairs_at from count was)) (sym pair_word) (named_here from count i was below)
+
+  pub quiet_more : {old mid new : Option History} → QuietOff (Named (pairs_at from count was)) old mid → QuietOff (λ word. word ≡ slice_index words (from + 2 * i)) mid new → QuietOff (Named (pairs_at from count was)) old new
+  quiet_more run more = quiet_then (Named (pairs_at from count was)) (λ word is. subst (Named (pairs_at from count was)) (sym is) names) run more
+
+  pub gives_it : Gives (pairs_at from count was) (slice_index words (from + 2 * i)) (slice_index words (from + 2 * i + 1))
+  gives_it = subst (λ (w : ℕ). Gives (pairs_at from count was) w (slice_index words (from + 2 * i + 1))) (sym pair_word)
+      (subst (λ (v : ℕ). Gives (pairs_at from count was) (slice_index was (from + 2 * i)) v) (sym pair_value) (gives_here from count i was below))
+
+  pub makes_more : {old mid new : Option History} → MakesOnly (Gives (pairs_at from count was)) old mid
+      → MakesOnly (λ word value. (word ≡ slice_index words (from + 2 * i)) × (value ≡ slice_index words (from + 2 * i + 1))) mid new → MakesOnly (Gives (pairs_at from count was)) old new
+  makes_more made more =
+      makes_then made (makes_weaker (Gives (pairs_at from count was)) (λ word value is.
+      subst (λ (w : ℕ). Gives (pairs_at from count was) w value) (sym is.0) (subst (λ (v : ℕ). Gives (pairs_at from count was) (slice_index words (from + 2 * i)) v) (sym is.1) gives_it)) more)
+
+  pub back_more : (mid new : Option History) → ((word : ℕ) → Named (pairs_at from i was) word → WrittenBack mid (word / 8)) → WrittenBack new (slice_index words (from + 2 * i) / 8)
+      → ((line : ℕ) → WrittenBack mid line → WrittenBack new line) → (word : ℕ) → Named (pairs_at from (i + 1) was) word → WrittenBack new (word / 8)
+  back_more mid new back here still word named =
+      let more : i + 1 ≡ suc i = omega arith in
+      let split : Named (pairs_at from (suc i) was) word = subst (λ (n : ℕ). Named (pairs_at from n was) word) more named in
+      elim split [
+        | inl is ↦ subst (λ (w : ℕ). WrittenBack new (w / 8)) (pair_word ∙ sym is) here
+        | inr before ↦ still (word / 8) (back word before)
+      ]
+
+-- the first j of the pairs are all but the newest few
+pub first_pairs : (from n j : ℕ) (words : List ℕ) → j ≤ n → (k : ℕ) × (drop k (pairs_at from n words) ≡ pairs_at from j words)
+first_pairs from zero j words within = let none : j ≡ 0 = omega arith in (0, ap (λ (m : ℕ). pairs_at from m words) (sym none))
+first_pairs from (suc n) j words within = elim (cases_eq j (suc n)) [
+  | inl is ↦ (0, ap (λ (m : ℕ). pairs_at from m words) (sym is))
+  | inr ne ↦ let rest = first_pairs from n j words (omega arith) in (suc rest.0, rest.1)
+]
+
+pub place_short : (words : List ℕ) → IsRecord words → slice_index words 512 ≡ 0 → IsPlace 520 (slice_index words 527) words
+place_short words is closed = record {
+  inside = omega (arith, is.short);
+  pairs = ap (λ (n : ℕ). pairs_behind n (slice_index words 527) words) (sym closed);
+  targets = is.short_targets;
+}
+
+behind_long : (long short : ℕ) (words : List ℕ) → 0 < long → pairs_at 528 long words ≡ pairs_behind long short words
+behind_long zero short words some = absurd (omega arith)
+behind_long (suc n) short words some = refl
+
+pub place_long : (words : List ℕ) → IsRecord words → 0 < slice_index words 512 → IsPlace 528 (slice_index words 512) words
+place_long words is some = record {
+  inside = omega (arith, is.long);
+  pairs = behind_long (slice_index words 512) (slice_index words 527) words some;
+  targets = is.long_targets;
+}
+
+module _ {from count : ℕ} {words : List ℕ} (place : IsPlace from count words) (is : IsRecord words) where
+  open_quiet : {old new : Option History} → QuietOff (Named (pairs_at from count words)) old new → QuietOff (Named (open_pairs words)) old new
+  open_quiet {old = old} {new = new} run = subst (λ (ps : List Pair). QuietOff (Named ps) old new) place.pairs run
+
+  pub applying_settles : {old new : Option History} → Replays old words → NothingPending old → QuietOff (Named (pairs_at from count words)) old new → LeavesOnly old new (SettlesTo words)
+  applying_settles replays settled run = weaker (SettlesTo words) (λ image same. settles_moved image words is same) (quiet_settled replays settled (open_quiet run))
+
+  pub open_made : {old new : Option History} → MakesOnly (Gives (pairs_at from count words)) old new → MakesOnly (Gives (open_pairs words)) old new
+  open_made {old = old} {new = new} made = subst (λ (ps : List Pair). MakesOnly (Gives ps) old new) place.pairs made
+
+  pub applied_open : (new : List ℕ) → new ≡ with_pairs (pairs_at from count words) words → new ≡ with_pairs (open_pairs words) words
+  applied_open new all = all ∙ ap (λ (ps : List Pair). with_pairs ps words) place.pairs
+
+  pub applied_some : (new : List ℕ) → AreApplied from count words new → (k : ℕ) × (new ≡ with_pairs (drop k (open_pairs words)) words)
+  applied_some new some =
+      let first = first_pairs from count some.0 words some.1 in
+      (first.0, some.2 ∙ ap (λ (ps : List Pair). with_pairs ps words) (sym first.1) ∙ ap (λ (ps : List Pair). with_pairs (drop first.0 ps) words) place.pairs)
+
+  -- what was applied so far settles as before
+  pub some_settles : (new : List ℕ) → AreApplied from count words new → SettlesTo words new
+  some_settles new some =
+      let first = pairs_at from some.0 words in
+      settles_moved new words is (same_wider (λ word named. subst (λ (ps : List Pair). Named ps word) place.pairs (named_more from count some.0 words word some.1 named))
+      (subst (λ (l : List ℕ). SameOff (Named first) l words) (sym some.2) (pairs_same first words)))
+
+  pub applied_fenced : {T E : Type 0} {r : Result T E} {old mid new : Option History} (now : List ℕ) → Replays old words → NothingPending old → QuietOff (Named (pairs_at from count words)) old mid
+      → now ≡ with_pairs (pairs_at from count words) words → Replays mid now → ((word : ℕ) → Named (pairs_at from count words) word → WrittenBack mid (word / 8)) → AddsStep r Fence mid new → OnOk r (NothingPending new)
+  applied_fenced now replays settled run all shows back adds =
+      settled_by_fence (is_named (pairs_at from count words)) (quiet_settled replays settled run)
+      (subst (λ (l : List ℕ). SameOff (Named (pairs_at from count words)) l words) (sym all) (pairs_same (pairs_at from count words) words)) shows back adds
+
+-- after the pairs the record is still open, and they stand
+module _ {words : List ℕ} (is : IsRecord words) (pages : HasPages words) where
+  off : (word : ℕ) → word < 16896 → slice_index (with_pairs (open_pairs words) words) word ≡ slice_index words word
+  off word below = with_pairs_off (open_pairs words) words word (λ named. let target = open_target words word is named in omega (arith, target.0))
+
+  pub applied_pairs : open_pairs (with_pairs (open_pairs words) words) ≡ open_pairs words
+  applied_pairs = open_alike (with_pairs (open_pairs words) words) words is (λ word inside. off word (omega (arith, inside.1)))
+
+  pub applied_stand : Stand (with_pairs (open_pairs words) words)
+  applied_stand = ap (λ (ps : List Pair). with_pairs ps (with_pairs (open_pairs words) words)) applied_pairs ∙ with_pairs_twice (open_pairs words) words
+
+  pub applied_pages : HasPages (with_pairs (open_pairs words) words)
+  applied_pages = let two = off 2 (omega arith) in (omega (arith, two, pages.0), omega (arith, two, pages.1, length-with_pairs (open_pairs words) words))
+
+  pub applied_gates : (slice_index (with_pairs (open_pairs words) words) 512 ≡ slice_index words 512) × (slice_index (with_pairs (open_pairs words) words) 527 ≡ slice_index words 527)
+  applied_gates = (off 512 (omega arith), off 527 (omega arith))
+
+  pub applied_record : IsRecord (with_pairs (open_pairs words) words)
+  applied_record =
+      let new = with_pairs (open_pairs words) words in
+      let two : slice_index new 2 ≡ slice_index words 2 = off 2 (omega arith) in
+      let long = applied_gates.0 in
+      let short = applied_gates.1 in
+      record {
+        long = omega (arith, long, is.long);
+        short = omega (arith, short, is.short);
+        one = λ some. short ∙ is.one (omega (arith, long));
+        long_targets = λ k below.
+            let target = is.long_targets k (omega (arith, long)) in
+            let there : slice_index new (528 + 2 * k) ≡ slice_index words (528 + 2 * k) = off (528 + 2 * k) (omega (arith, long, is.long)) in
+            (omega (arith, target.0), omega (arith, target.1));
+        short_targets = λ k below.
+            let target = is.short_targets k (omega (arith, short)) in
+            let there : slice_index new (520 + 2 * k) ≡ slice_index words (520 + 2 * k) = off (520 + 2 * k) (omega (arith, short, is.short)) in
+            (omega (arith, target.0), omega (arith, target.1));
+      }
+
+  pub applied_still : IsOpen words → IsOpen (with_pairs (open_pairs words) words)
+  applied_still opened = omega (arith, opened, applied_gates.0, applied_gates.1)
+
+  pub applied_same : SettlesTo words (with_pairs (open_pairs words) words)
+  applied_same = settles_moved (with_pairs (open_pairs words) words) words is (pairs_same (open_pairs words) words)

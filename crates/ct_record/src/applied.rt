@@ -1,0 +1,62 @@
+ghost use Rattle.std.specs.Prelude.{◌≡◌, ◌≤◌, OnOk};
+ghost use Rattle.std.proofs.Props.{props};
+ghost use Rattle.ct_base.specs.Causes.{HasCause};
+ghost use Rattle.ct_base.specs.Settled.{HasPages, IsShut, IsRecord};
+ghost use Rattle.ct_pm.specs.Device.{LeavesOnly, MakesOnly, NothingPending, SameOff};
+ghost use Rattle.ct_record.specs.Record.{IsOpen, Stand, InRecord, StaysInRecord, SettlesTo};
+
+use crate::gate::close_gate;
+use crate::{Broken, Idle};
+use ct_pm::Pm;
+
+/// A record that was applied: one gate is open, its pairs stand on the device, and nothing is pending.
+pub struct Applied<D: Pm> {
+    dev: D,
+    ghost settled: { NothingPending (D.told dev) } by { Prim.hlevel props },
+    ghost pages: { HasPages (D.words dev) },
+    ghost record: { IsRecord (D.words dev) },
+    ghost opened: { IsOpen (D.words dev) },
+    ghost stand: { Stand (D.words dev) },
+}
+
+impl<D: Pm> Applied<D> {
+    ghost use Rattle.ct_record.specs.Seen.{applied_dev, after_finish};
+
+    // A device whose open record was applied.
+    pub(crate) fn of(dev: D) -> Applied<D>
+        requires settled { NothingPending (D.told dev) }
+        requires pages { HasPages (D.words dev) }
+        requires record { IsRecord (D.words dev) }
+        requires opened { IsOpen (D.words dev) }
+        requires stand { Stand (D.words dev) }
+        ensures { applied_dev result ≡ dev }
+    {
+        Applied { dev }
+    }
+
+    /// Commits 0 to the gate.
+    ///
+    /// # Errors
+    ///
+    /// `Broken` where the device failed. The pairs stand, whether the gate is still open or not.
+    pub fn finish(self) -> Result<Idle<D>, Broken<D>>
+        // The pairs stand, and off pages 1 to 32 no word changes.
+        ensures stand { Stand (D.words (applied_dev self)) }
+        ensures same { SameOff InRecord (D.words (after_finish result)) (D.words (applied_dev self)) }
+        ensures made { MakesOnly StaysInRecord (D.told (applied_dev self)) (D.told (after_finish result)) }
+
+        ensures shut { OnOk result (IsShut (D.words (after_finish result))) }
+        ensures settled { OnOk result (NothingPending (D.told (after_finish result))) }
+
+        // A crash at any moment leaves what settles as the words at entry do, and so do the words as they read.
+        ensures any_moment { LeavesOnly (D.told (applied_dev self)) (D.told (after_finish result)) (SettlesTo (D.words (applied_dev self))) }
+        ensures reads { SettlesTo (D.words (applied_dev self)) (D.words (after_finish result)) }
+        ensures cause { HasCause (D.faults (applied_dev self)) (D.faults (after_finish result)) result }
+    {
+        let Applied { mut dev } = self;
+        match close_gate(&mut dev) {
+            Ok(()) => Ok(Idle::of(dev)),
+            Err(_) => Err(Broken { dev }),
+        }
+    }
+}

@@ -1,0 +1,122 @@
+ghost use Rattle.std.specs.Prelude.{◌≡◌, ◌<◌, ◌≤◌, ◌+◌, ◌*◌, [], ◌∷◌, OnOk, OnErr, length, slice_index};
+ghost use Rattle.std.proofs.Props.{props};
+ghost use Rattle.ct_base.specs.Causes.{HasCause};
+ghost use Rattle.ct_base.specs.Settled.{HasPages, IsShut, HaveTargets, IsTarget, with_pairs};
+ghost use Rattle.ct_pm.specs.Device.{EachNow, SameOff, LeavesOnly, MakesOnly, NothingPending};
+ghost use Rattle.ct_record.specs.Record.{IsTouched, InRecord, SettlesTo, StaysInRecord, IsAll, IsNoneOrAll};
+
+use crate::gate::open_gate;
+use crate::pair::{put_pair, value_after};
+use crate::{Armed, Broken, Idle};
+use ct_pm::{Pm, PmFault};
+
+/// A record that is being written: both gates are closed in every image, while pairs are stored behind the long one.
+pub struct Draft<D: Pm> {
+    dev: D,
+    count: u64,
+    ghost images: { EachNow (D.told dev) (SameOff (IsTouched count) (D.words dev)) } by { Prim.hlevel props },
+    ghost shut: { IsShut (D.words dev) },
+    ghost pages: { HasPages (D.words dev) },
+    ghost targets: { HaveTargets 528 count (D.words dev) },
+    ghost few: { count ≤ 8184 },
+}
+
+impl<D: Pm> Draft<D> {
+    ghost use Rattle.ct_record.specs.Seen.{idle_dev, draft_dev, count_of, pairs_of, words_under, told_under, faults_under, Drafts, after_arm};
+
+    /// A draft with no pairs.
+    pub fn begin(idle: Idle<D>) -> Draft<D>
+        ensures dev { draft_dev result ≡ idle_dev idle }
+        ensures count { count_of result ≡ 0 }
+        ensures pairs { pairs_of result ≡ [] }
+        ensures settles { EachNow (told_under result) (SettlesTo (words_under result)) }
+    {
+        let dev = idle.into_dev();
+        Draft { dev, count: 0 }
+    }
+
+    /// The device under the draft, on which no pair is applied yet.
+    pub fn dev(&self) -> &D
+        ensures { result.now ≡ draft_dev self.now }
+    {
+        &self.dev
+    }
+
+    /// The number of pairs so far.
+    pub fn count(&self) -> u64
+        ensures { result ≡ count_of self.now }
+    {
+        self.count
+    }
+
+    /// The word's value after the pairs so far. It costs a load for each pair, and up to two more.
+    pub fn value(&self, word: u64) -> u64
+        requires { word < length (words_under self.now) }
+        ensures { result ≡ slice_index (with_pairs (pairs_of self.now) (words_under self.now)) word }
+    {
+        value_after(&self.dev, 528, self.count, word)
+    }
+
+    /// Adds a pair, the newest, by two stores.
+    ///
+    /// # Errors
+    ///
+    /// `PmFault` where the device failed. The draft then has the pairs that it had.
+    pub fn add(&mut self, word: u64, value: u64) -> Result<(), PmFault>
+        requires room { count_of self.old < 8184 }
+        requires target { IsTarget (words_under self.old) word }
+
+        ensures count { OnOk result (count_of self.new ≡ count_of self.old + 1) }
+        ensures added { OnOk result (pairs_of self.new ≡ record { word = word; value = value } ∷ pairs_of self.old) }
+        ensures count_err { OnErr result (count_of self.new ≡ count_of self.old) }
+        ensures kept { OnErr result (pairs_of self.new ≡ pairs_of self.old) }
+
+        ensures drafts { Drafts self.old self.new }
+        ensures cause { HasCause (faults_under self.old) (faults_under self.new) result }
+    {
+        put_pair(&mut self.dev, self.count, word, value)?;
+        self.count += 1;
+        Ok(())
+    }
+
+    /// Gives the device back with the pairs dropped: both gates are closed, and no image settles elsewhere than before.
+    pub fn abandon(self) -> D
+        ensures dev { result ≡ draft_dev self }
+        ensures shut { IsShut (D.words result) }
+        ensures each_shut { EachNow (D.told result) IsShut }
+        ensures settles { EachNow (D.told result) (SettlesTo (D.words result)) }
+        ensures pages { HasPages (D.words result) }
+    {
+        let Draft { dev, count: _ } = self;
+        dev
+    }
+
+    /// Opens the gate: flushes each line of the pairs once, fences, and commits the gate.
+    ///
+    /// # Errors
+    ///
+    /// `Broken` where the device failed. Each image then has the record open with all pairs, or closed.
+    pub fn arm(self) -> Result<Armed<D>, Broken<D>>
+        requires { 0 < count_of self }
+
+        // After Ok the whole record is open, in every image and in the words as they read.
+        ensures settled { OnOk result (NothingPending (D.told (after_arm result))) }
+        ensures each { OnOk result (EachNow (D.told (after_arm result)) (IsAll (pairs_of self) (words_under self))) }
+        ensures all { OnOk result (IsAll (pairs_of self) (words_under self) (D.words (after_arm result))) }
+
+        // A crash at any moment leaves none of the pairs behind an open gate, or all.
+        ensures any_moment { LeavesOnly (told_under self) (D.told (after_arm result)) (IsNoneOrAll (pairs_of self) (words_under self)) }
+        ensures reads { IsNoneOrAll (pairs_of self) (words_under self) (D.words (after_arm result)) }
+
+        // Off pages 1 to 32 no word changes.
+        ensures same { SameOff InRecord (D.words (after_arm result)) (words_under self) }
+        ensures made { MakesOnly StaysInRecord (told_under self) (D.told (after_arm result)) }
+        ensures cause { HasCause (faults_under self) (D.faults (after_arm result)) result }
+    {
+        let Draft { mut dev, count } = self;
+        match open_gate(&mut dev, count) {
+            Ok(()) => Ok(Armed::of(dev)),
+            Err(_) => Err(Broken { dev }),
+        }
+    }
+}

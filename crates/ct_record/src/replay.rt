@@ -1,0 +1,46 @@
+ghost use Rattle.std.specs.Prelude.{◌≡◌, ◌≤◌, ◌⊎◌, ℕ, OnOk, OnErr, drop, slice_index};
+ghost use Rattle.ct_base.specs.Causes.{HasCause};
+ghost use Rattle.ct_base.specs.Settled.{HasPages, IsShut, IsRecord, settled, with_pairs, open_pairs};
+ghost use Rattle.ct_pm.specs.Device.{LeavesOnly, MakesOnly, NothingPending, SameOff};
+ghost use Rattle.ct_record.specs.Record.{InRecord, SettlesTo, IsStaging};
+ghost use Rattle.ct_base.specs.Settled.{Gives};
+ghost use Rattle.ct_record.specs.Seen.{after_finish};
+
+use crate::{Armed, Broken, Idle};
+use ct_pm::Pm;
+
+/// Applies the open record, where there is one, and closes its gate.
+///
+/// # Errors
+///
+/// `Broken` where the device failed. What is left settles as before.
+pub fn replay<D: Pm>(dev: D) -> Result<Idle<D>, Broken<D>>
+    requires settled { NothingPending (D.told dev) }
+    requires pages { HasPages (D.words dev) }
+    requires record { IsRecord (D.words dev) }
+
+    ensures words { OnOk result (SameOff InRecord (D.words (after_finish result)) (with_pairs (open_pairs (D.words dev)) (D.words dev))) }
+    ensures shut { OnOk result (IsShut (D.words (after_finish result))) }
+    ensures settled { OnOk result (NothingPending (D.told (after_finish result))) }
+
+    // Pages 33 and later are what the words at entry settle to, root slots 2 to 9 aside.
+    ensures as_settled { OnOk result ((word : ℕ) → 16896 ≤ word → (IsStaging word → ⊥) →
+        slice_index (D.words (after_finish result)) word ≡ slice_index (settled (D.words dev)) word) }
+
+    // A crash at any moment leaves what settles as the words at entry do, and so do the words as they read.
+    ensures any_moment { LeavesOnly (D.told dev) (D.told (after_finish result)) (SettlesTo (D.words dev)) }
+    ensures reads { SettlesTo (D.words dev) (D.words (after_finish result)) }
+
+    // Off pages 1 to 32 each store gives a word the value that one of the pairs has for it.
+    ensures made { MakesOnly (λ word value. InRecord word ⊎ Gives (open_pairs (D.words dev)) word value) (D.told dev) (D.told (after_finish result)) }
+    ensures part { OnErr result ((k : ℕ) × SameOff InRecord (D.words (after_finish result)) (with_pairs (drop k (open_pairs (D.words dev))) (D.words dev))) }
+    ensures cause { HasCause (D.faults dev) (D.faults (after_finish result)) result }
+{
+    if dev.load(512) == 0 && dev.load(527) == 0 {
+        return Ok(Idle::of(dev));
+    }
+    match Armed::of(dev).apply() {
+        Ok(applied) => applied.finish(),
+        Err(broken) => Err(broken),
+    }
+}

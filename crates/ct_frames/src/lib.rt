@@ -1,0 +1,10 @@
+//! The free pages of a device: a bit for each page, and a hint below which no bit is set. Contracts see them as
+//! `FreePages`, the number of pages and the list of those that are free.
+#![tactic(auto)]
+
+mod bits;
+mod map;
+#[cfg(test)]
+mod tests;
+
+pub use map::Frames;

@@ -1,0 +1,105 @@
+ghost use Rattle.std.specs.Prelude.{◌≡◌, ◌≢◌, ℕ, ◌+◌, ◌-◌, ◌*◌, ◌/◌, ◌%◌, ◌<◌, ◌≤◌, ◌↔◌, [], ◌∷◌, length, IsTrue, IsNone, IfSome, IfNone, IfOk, Contains};
+ghost use Rattle.ct_frames.specs.Free.{FreePages, inserted, without, rising};
+
+use crate::bits::{clear_bit, has_bit, lowest_bit, set_bit};
+use ct_base::{NoMemory, Page};
+use std::alloc::Global;
+use std::marker::Model;
+
+/// Pages 0 to 33 hold the superblock, the redo record and the root table, and are never free.
+const FIRST: u64 = 34;
+
+/// The pages of a device that are free.
+#[derive(Drop)]
+pub struct Frames {
+    words: Vec<u64>,
+    pages: u64,
+    first: usize,
+    free: u64,
+}
+
+impl Model for Frames {
+    ghost use Rattle.ct_frames.specs.Free.{FreePages, AreFrames, listed, is_set};
+
+    ghost Value = { FreePages };
+
+    ghost view = { λ a. record { pages = a.pages; free = listed (is_set a.words.items) a.pages 0 } };
+
+    ghost invariant = { λ a. AreFrames a.words.items a.pages a.first a.free };
+}
+
+impl Frames {
+    /// The pages from 34 on, all free.
+    pub fn new(alloc: Global, pages: u64) -> Result<Frames, NoMemory>
+        requires least { 34 ≤ pages }
+        requires most { pages ≤ 262144 }
+        ensures { IfOk result (λ f. f ≡ record { pages = pages; free = rising (pages - 34) 34 }) }
+    {
+        let mut words = match vec![in alloc; 0u64; (pages as usize + 63) / 64] {
+            Ok(words) => words,
+            Err(_) => return Err(NoMemory),
+        };
+        for page in FIRST..pages {
+            set_bit(&mut words, page);
+        }
+        Ok(Frames {
+            words,
+            pages,
+            first: 0,
+            free: pages - FIRST,
+        })
+    }
+
+    /// Takes the lowest free page; `None` exactly where none is free.
+    pub fn take(&mut self) -> Option<Page>
+        ensures some { IfSome result (λ page. self.old.free ≡ page ∷ self.new.free) }
+        ensures least { IfSome result (λ page. (q : ℕ) → Contains self.new.free q → page < q) }
+        ensures none { IfNone result ((self.old.free ≡ []) × (self.new.free ≡ [])) }
+        ensures pages { self.new.pages ≡ self.old.pages }
+        ensures in_range { IfSome result (λ page. (34 ≤ page) × (page < self.old.pages)) }
+        ensures small { IfSome result (λ page. page < 262144) }
+    {
+        let page = lowest_bit(&self.words, self.first)?;
+        clear_bit(&mut self.words, page);
+        self.first = (page / 64) as usize;
+        self.free -= 1;
+        Some(Page::new(page))
+    }
+
+    /// Gives a page back.
+    pub fn give(&mut self, page: Page)
+        requires low { 34 ≤ page }
+        requires high { page < self.old.pages }
+        requires used { ¬ Contains self.old.free page }
+        ensures { self.new ≡ record self.old { free = inserted page self.old.free } }
+    {
+        let number = page.number();
+        set_bit(&mut self.words, number);
+        self.first = self.first.min((number / 64) as usize);
+        self.free += 1;
+    }
+
+    /// Takes a page that is free.
+    pub fn mark(&mut self, page: Page)
+        requires { Contains self.old.free page }
+        ensures { self.new ≡ record self.old { free = without page self.old.free } }
+    {
+        clear_bit(&mut self.words, page.number());
+        self.free -= 1;
+    }
+
+    /// Whether a page is free.
+    pub fn is_free(&self, page: Page) -> bool
+        ensures { IsTrue result ↔ Contains self.now.free page }
+    {
+        let number = page.number();
+        number < self.pages && has_bit(&self.words, number)
+    }
+
+    /// How many pages are free.
+    pub fn free(&self) -> u64
+        ensures { result ≡ length self.now.free }
+    {
+        self.free
+    }
+}

@@ -1,0 +1,187 @@
+-- The loop over the pieces.
+use Rattle.std.proofs.Common.{◌≡◌, ◌≢◌, ℕ, ◌+◌, ◌-◌, ◌*◌, ◌/◌, ◌%◌, ◌^◌, ◌<◌, ◌≤◌, List, [], ◌∷◌, length, set, refl, sym, ap, subst, ◌∙◌, inl, inr, arith}
+use Rattle.std.specs.Prelude.{All}
+use Rattle.std.proofs.lemmas.Bool.{cases_lt}
+use Rattle.std.proofs.lemmas.List.{get_or-set_same, get_or-set_other, length-set}
+use Rattle.std.proofs.lemmas.List.Elements.{All-head, All-tail}
+use Rattle.std.proofs.Math.Nat.{div-add-mod, div-div-eq-div-mul, pow-suc}
+use Rattle.ct_base.specs.Walk.{word, page_at, page_count, AreTables}
+use Rattle.ct_image.proofs.Steps.{page_at-low, page_at-high}
+use Rattle.ct_image.proofs.Swap.{Swaps}
+use Rattle.ct_base.specs.Pieces.{pieces_from, pieces, height_at, IsBlock}
+use Rattle.ct_pieces.proofs.Steps.{pieces_from-past, pieces_from-step, width_pos}
+use Rattle.ct_pieces.proofs.Least.{height_block}
+use Rattle.ct_base.specs.Exchange.{Apart, Outside, Exchanged, SameTables, HasTables, entry_at, with_swap}
+use Rattle.ct_image.proofs.Exchanging.{exchanged_none, exchanged-step}
+
+-- Of the pieces from offset at on these are left, and those before are exchanged.
+pub record Goes (device old now : List ℕ) (a b n at : ℕ) (left : List (ℕ × ℕ)) : Type 0 where
+  pub in_range : at ≤ n
+  pub left_is : left ≡ pieces_from (n - at) a b n at
+  pub exchanged : Exchanged old now a b at
+  pub there : All (HasTables device a b) left
+
+pub goes_start : (device old : List ℕ) (a b n : ℕ) → SameTables device old → All (HasTables device a b) (pieces a b n) → Goes device old old a b n 0 (pieces a b n)
+goes_start device old a b n same there =
+    record { in_range = omega arith; left_is = ap (λ k. pieces_from k a b n 0) (omega arith); exchanged = exchanged_none old a b same.same; there = there }
+
+pub goes_end : (device old now : List ℕ) (a b n at : ℕ) → Goes device old now a b n at [] → Exchanged old now a b n
+goes_end device old now a b n at goes =
+    elim (cases_lt at n) [
+      | inl lt ↦ cc (goes.left_is, pieces_from-step a b n at (height_at a b n at) (at + 512 ^ height_at a b n at) lt refl refl)
+      | inr past ↦ subst (λ (k : ℕ). Exchanged old now a b k) (omega (arith, goes.in_range)) goes.exchanged
+    ]
+
+-- number p / 512 ^ h by its table and its entry
+pub digits : (p h : ℕ) → p / 512 ^ (h + 1) * 512 + p / 512 ^ h % 512 ≡ p / 512 ^ h
+digits p h =
+    let up : p / 512 ^ h / 512 ≡ p / 512 ^ (h + 1) = div-div-eq-div-mul p (512 ^ h) 512 ∙ ap (λ w. p / w) (sym (pow-suc 512 h) ∙ ap (λ k. 512 ^ k) (omega arith)) in
+    omega (arith, up)
+
+-- what is aligned is its quotient times the width
+pub aligned : (p w : ℕ) → p % w ≡ 0 → p / w * w ≡ p
+aligned p w e = omega (arith, div-add-mod p w, e)
+
+-- two entries change places, by two writes
+swaps_by_sets : (mid : List ℕ) (d x ix z iz w1 w2 : ℕ) → AreTables mid → d ≤ 3 → ix < 512 → iz < 512 → page_at mid d x ≢ 0 → page_at mid d z ≢ 0
+    → w1 ≡ page_at mid d x * 512 + ix → w2 ≡ page_at mid d z * 512 + iz → w1 ≢ w2
+    → Swaps mid (set (set mid w1 (word mid w2)) w2 (word mid w1)) d x ix z iz
+swaps_by_sets mid d x ix z iz w1 w2 tables depth lx lz tx tz e1 e2 apart =
+    let in1 : w1 < length mid = omega (arith, page_at-high mid d x tables.some, tables.there, e1) in
+    let in2 : w2 < length mid = omega (arith, page_at-high mid d z tables.some, tables.there, e2) in
+    let size1 = length-set mid w1 (word mid w2) in
+    let new = set (set mid w1 (word mid w2)) w2 (word mid w1) in
+    let first : word new w1 ≡ word mid w2 = get_or-set_other (set mid w1 (word mid w2)) w2 w1 (word mid w1) 0 apart ∙ get_or-set_same mid w1 (word mid w2) 0 in1 in
+    let second : word new w2 ≡ word mid w1 = get_or-set_same (set mid w1 (word mid w2)) w2 (word mid w1) 0 (omega (arith, size1, in2)) in
+    record {
+      tables = tables;
+      depth = depth;
+      index_i = lx;
+      index_j = lz;
+      table_x = tx;
+      table_z = tz;
+      first = ap (word new) (sym e1) ∙ first ∙ ap (word mid) e2;
+      second = ap (word new) (sym e2) ∙ second ∙ ap (word mid) e1;
+      others = λ w not1 not2. get_or-set_other _ w2 w _ 0 (λ is. not2 (is ∙ e2)) ∙ get_or-set_other mid w1 w _ 0 (λ is. not1 (is ∙ e1));
+      size = length-set (set mid w1 (word mid w2)) w2 (word mid w1) ∙ size1;
+    }
+
+-- an entry of a table that is there is on the device
+pub entry_there : (device : List ℕ) (p h : ℕ) → AreTables device → page_at device (3 - h) (p / 512 ^ (h + 1)) ≢ 0
+    → (16896 ≤ entry_at device p h) × (entry_at device p h < 512 * page_count device)
+entry_there device p h tables there =
+    let low = page_at-low device (3 - h) (p / 512 ^ (h + 1)) there in
+    let high = page_at-high device (3 - h) (p / 512 ^ (h + 1)) tables.some in
+    (omega (arith, low), omega (arith, high))
+
+-- what is known of the first piece that is left
+pub record Head (device : List ℕ) (a b n at o h : ℕ) (rest : List (ℕ × ℕ)) : Type 0 where
+  pub at_is : at ≡ o
+  pub low : h ≤ 3
+  pub inside : o + 512 ^ h ≤ n
+  pub first_there : page_at device (3 - h) ((a + o) / 512 ^ (h + 1)) ≢ 0
+  pub second_there : page_at device (3 - h) ((b + o) / 512 ^ (h + 1)) ≢ 0
+  pub first : (a + o) % 512 ^ h ≡ 0
+  pub second : (b + o) % 512 ^ h ≡ 0
+  pub rest_is : rest ≡ pieces_from (n - (o + 512 ^ h)) a b n (o + 512 ^ h)
+
+-- the first piece that is left is a block, and the others follow it
+pub record Block (a b n at o h : ℕ) (rest : List (ℕ × ℕ)) : Type 0 where
+  pub at_is : at ≡ o
+  pub block : IsBlock a b n (o, h)
+  pub rest_is : rest ≡ pieces_from (n - (o + 512 ^ h)) a b n (o + 512 ^ h)
+
+pub block_of : (a b n at o h : ℕ) (rest : List (ℕ × ℕ)) → (o, h) ∷ rest ≡ pieces_from (n - at) a b n at → Block a b n at o h rest
+block_of a b n at o h rest left_is =
+    elim (cases_lt at n) [
+      | inr past ↦ cc (left_is, pieces_from-past (n - at) a b n at past)
+      | inl lt ↦
+          let k = height_at a b n at in
+          let step = left_is ∙ pieces_from-step a b n at k (at + 512 ^ k) lt refl refl in
+          let P : Type 0 = ℕ × ℕ in
+          let first : P = (o, h) in
+          let here : P = (at, k) in
+          let pair : first ≡ here = cc in
+          let o_is : at ≡ o = ap (λ (x : ℕ × ℕ). x.0) (sym pair) in
+          let h_is : k ≡ h = ap (λ (x : ℕ × ℕ). x.1) (sym pair) in
+          let rest_at : rest ≡ pieces_from (n - (at + 512 ^ k)) a b n (at + 512 ^ k) = cc in
+          let j : at + 512 ^ k ≡ o + 512 ^ h = ap (λ x. x + 512 ^ k) o_is ∙ ap (λ x. o + 512 ^ x) h_is in
+          record {
+            at_is = o_is;
+            block = subst (λ (x : ℕ). IsBlock a b n (x, h)) o_is (subst (λ (x : ℕ). IsBlock a b n (at, x)) h_is (height_block a b n at lt));
+            rest_is = rest_at ∙ ap (λ x. pieces_from (n - x) a b n x) j;
+          }
+    ]
+
+pub head_of : (device : List ℕ) (a b n at o h : ℕ) (rest : List (ℕ × ℕ)) → at ≤ n → (o, h) ∷ rest ≡ pieces_from (n - at) a b n at → All (HasTables device a b) ((o, h) ∷ rest) → Head device a b n at o h rest
+head_of device a b n at o h rest in_range left_is all =
+    let it = block_of a b n at o h rest left_is in
+    let there : HasTables device a b (o, h) = All-head (HasTables device a b) (o, h) rest all in
+    record {
+      at_is = it.at_is;
+      low = it.block.height;
+      inside = it.block.inside;
+      first_there = there.0;
+      second_there = there.1;
+      first = it.block.first;
+      second = it.block.second;
+      rest_is = it.rest_is;
+    }
+
+pub head_is : (device old mid : List ℕ) (a b n at o h : ℕ) (rest : List (ℕ × ℕ)) → Goes device old mid a b n at ((o, h) ∷ rest) → Head device a b n at o h rest
+head_is device old mid a b n at o h rest goes = head_of device a b n at o h rest goes.in_range goes.left_is goes.there
+
+-- one piece further
+pub goes_step : (device old mid : List ℕ) (a b n at o h : ℕ) (rest : List (ℕ × ℕ)) → Goes device old mid a b n at ((o, h) ∷ rest) → SameTables device old → Apart a b n
+    → Goes device old (with_swap mid (entry_at device (a + o) h) (entry_at device (b + o) h)) a b n (o + 512 ^ h) rest
+unfolding with_swap
+goes_step device old mid a b n at o h rest goes same apart =
+    let head = head_is device old mid a b n at o h rest goes in
+    let d = 3 - h in
+    let p = a + o in
+    let q = b + o in
+    let x = p / 512 ^ (h + 1) in
+    let z = q / 512 ^ (h + 1) in
+    let w = 512 ^ h in
+    let pos = width_pos h in
+    let up : 4 - d ≡ h + 1 = omega (arith, head.low) in
+    let now : Exchanged old mid a b o = subst (λ (k : ℕ). Exchanged old mid a b k) head.at_is goes.exchanged in
+    let in_range : o < n = omega (arith, head.inside, pos) in
+    let out_p : Outside a b o p = record { first = λ le. omega arith; second = λ le. elim apart [ inl l ↦ absurd (omega arith) | inr l ↦ omega arith ] } in
+    let out_q : Outside a b o q = record { first = λ le. elim apart [ inl l ↦ omega arith | inr l ↦ absurd (omega arith) ]; second = λ le. omega arith } in
+    let same_x : page_at mid d x ≡ page_at device d x =
+    ap (λ k. page_at mid d (p / 512 ^ k)) (sym up) ∙ now.cells d p (omega arith) out_p ∙ ap (λ k. page_at old d (p / 512 ^ k)) up ∙ same.pages d x (omega arith) in
+    let same_z : page_at mid d z ≡ page_at device d z =
+    ap (λ k. page_at mid d (q / 512 ^ k)) (sym up) ∙ now.cells d q (omega arith) out_q ∙ ap (λ k. page_at old d (q / 512 ^ k)) up ∙ same.pages d z (omega arith) in
+    let there_x : page_at mid d x ≢ 0 = λ none. head.first_there (sym same_x ∙ none) in
+    let there_z : page_at mid d z ≢ 0 = λ none. head.second_there (sym same_z ∙ none) in
+    let ix = p / w % 512 in
+    let iz = q / w % 512 in
+    let w1 = entry_at device p h in
+    let w2 = entry_at device q h in
+    let e1 : w1 ≡ page_at mid d x * 512 + ix = ap (λ k. k * 512 + ix) (sym same_x) in
+    let e2 : w2 ≡ page_at mid d z * 512 + iz = ap (λ k. k * 512 + iz) (sym same_z) in
+    let at_a : (x * 512 + ix) * w ≡ a + o = ap (λ k. k * w) (digits p h) ∙ aligned p w head.first in
+    let at_b : (z * 512 + iz) * w ≡ b + o = ap (λ k. k * w) (digits q h) ∙ aligned q w head.second in
+    let differ : w1 ≢ w2 = λ is.
+    let tables : page_at mid d x ≡ page_at mid d z = omega (arith, e1, e2, is) in
+    let cells = (now.tables.once d x d z (omega arith) (omega arith) there_x tables).1 in
+    let entries : ix ≡ iz = omega (arith, e1, e2, is, tables) in
+    let both : a + o ≡ b + o = sym at_a ∙ ap (λ k. (k * 512 + ix) * w) cells ∙ ap (λ k. (z * 512 + k) * w) entries ∙ at_b in
+    elim apart [ inl l ↦ omega arith | inr l ↦ omega arith ] in
+    let swaps = swaps_by_sets mid d x ix z iz w1 w2 now.tables (omega arith) (omega arith) (omega arith) there_x there_z e1 e2 differ in
+    record {
+      in_range = head.inside;
+      left_is = head.rest_is;
+      exchanged = exchanged-step {n = n} h now swaps (omega (arith, head.low)) at_a at_b head.inside apart;
+      there = All-tail (HasTables device a b) (o, h) rest goes.there;
+    }
+
+-- the entries of two pieces that are not the same block are two words
+pub entry_apart : (device : List ℕ) (p h q k : ℕ) → AreTables device → h ≤ 3 → k ≤ 3 → page_at device (3 - h) (p / 512 ^ (h + 1)) ≢ 0 → page_at device (3 - k) (q / 512 ^ (k + 1)) ≢ 0
+    → entry_at device p h ≡ entry_at device q k → (h ≡ k) × (p / 512 ^ h ≡ q / 512 ^ k)
+entry_apart device p h q k tables low low' there there' same =
+    let table : page_at device (3 - h) (p / 512 ^ (h + 1)) ≡ page_at device (3 - k) (q / 512 ^ (k + 1)) = omega (arith, same) in
+    let entry : p / 512 ^ h % 512 ≡ q / 512 ^ k % 512 = omega (arith, same, table) in
+    let cell = tables.once (3 - h) (p / 512 ^ (h + 1)) (3 - k) (q / 512 ^ (k + 1)) (omega arith) (omega arith) there table in
+    (omega (arith, cell.0), omega (arith, digits p h, digits q k, cell.1, entry))

@@ -1,0 +1,59 @@
+// An exchange as a record of its own.
+ghost use Rattle.std.specs.Prelude.{◌≡◌, ◌≢◌, ℕ, ◌+◌, ◌*◌, ◌^◌, ◌<◌, ◌≤◌, length, All, IfOk, OnOk};
+ghost use Rattle.ct_base.specs.Causes.{HasCause};
+ghost use Rattle.ct_base.specs.Exchange.{Apart, Exchanged, HasTables};
+ghost use Rattle.ct_base.specs.Pieces.{pieces};
+ghost use Rattle.ct_base.specs.Settled.{HasPages, IsShut, with_pairs};
+ghost use Rattle.ct_base.specs.Walk.{AreTables};
+ghost use Rattle.ct_pm.specs.Device.{LeavesOnly, MakesOnly, NothingPending, SameOff};
+ghost use Rattle.ct_record.specs.Record.{InRecord, SettlesToEither};
+ghost use Rattle.ct_swap.specs.Committed.{StaysOrGives, after_swap};
+ghost use Rattle.ct_swap.specs.Swap.{swap_pairs};
+
+use crate::swap::pswap;
+use ct_pm::Pm;
+use ct_record::{Broken, Draft, Idle, complete};
+
+/// Exchanges the `n` virtual pages from `a` on with those from `b` on, as a record of its own: a crash at any moment leaves
+/// what settles to the words at entry, or to those with all of the exchange.
+///
+/// # Errors
+///
+/// `Broken` where the device failed. The exchange is then to be found whole or not at all once the device settles.
+pub fn pswap_now<D: Pm>(dev: D, a: u64, b: u64, n: u64) -> Result<D, Broken<D>>
+    requires settled { NothingPending (D.told dev) }
+    requires shut { IsShut (D.words dev) }
+    requires pages { HasPages (D.words dev) }
+    requires some { 1 ≤ n }
+    requires first { a + n ≤ 2 ^ 36 }
+    requires second { b + n ≤ 2 ^ 36 }
+    requires apart { Apart a b n }
+    requires tables { AreTables (D.words dev) }
+    requires there { All (HasTables (D.words dev) a b) (pieces a b n) }
+    requires room { 2 * length (pieces a b n) ≤ 8184 }
+
+    ensures exchanged { OnOk result (Exchanged (D.words dev) (D.words (after_swap result)) a b n) }
+    ensures words { OnOk result (SameOff InRecord (D.words (after_swap result)) (with_pairs (swap_pairs (D.words dev) a b (pieces a b n)) (D.words dev))) }
+    ensures shut { OnOk result (IsShut (D.words (after_swap result))) }
+    ensures settled { OnOk result (NothingPending (D.told (after_swap result))) }
+
+    // A crash at any moment leaves none of the exchange or all of it, and so do the words as they read.
+    ensures any_moment { LeavesOnly (D.told dev) (D.told (after_swap result)) (SettlesToEither (swap_pairs (D.words dev) a b (pieces a b n)) (D.words dev)) }
+    ensures reads { SettlesToEither (swap_pairs (D.words dev) a b (pieces a b n)) (D.words dev) (D.words (after_swap result)) }
+    ensures made { MakesOnly (StaysOrGives (swap_pairs (D.words dev) a b (pieces a b n))) (D.told dev) (D.told (after_swap result)) }
+    ensures cause { HasCause (D.faults dev) (D.faults (after_swap result)) result }
+{
+    let mut draft = Draft::begin(Idle::of(dev));
+    match pswap(&mut draft, a, b, n) {
+        Ok(()) => {}
+        Err(_) => {
+            return Err(Broken {
+                dev: draft.abandon(),
+            });
+        }
+    }
+    match complete(draft) {
+        Ok(idle) => Ok(idle.into_dev()),
+        Err(broken) => Err(broken),
+    }
+}

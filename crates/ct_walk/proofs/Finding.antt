@@ -1,0 +1,65 @@
+-- What the way to a cell finds, one index step further.
+use Rattle.std.proofs.Common.{◌≡◌, ◌≢◌, ℕ, suc, ◌+◌, ◌-◌, ◌*◌, ◌/◌, ◌%◌, ◌^◌, ◌<◌, ◌≤◌, List, Some, None, sym, ap, ◌∙◌, inl, inr, arith}
+use Rattle.std.specs.Prelude.{◌==◌}
+use Rattle.std.proofs.lemmas.Bool.{cases_eq, eq-eqb, ne_eqb}
+use Rattle.std.proofs.Math.Nat.{pow-suc}
+use Rattle.ct_base.specs.Walk.{page_at, next}
+use Rattle.ct_image.proofs.Steps.{page_at-next, page_at-root, next-zero}
+use Rattle.ct_walk.specs.declared.absent.Look.TheVariants.{Present, Absent}
+use Rattle.ct_walk.specs.Looks.{Finds}
+use Rattle.ct_walk.specs.Pages.{some_page, IsSomeTable}
+use Rattle.ct_walk.specs.Runs.{absent_below}
+use Rattle.ct_walk.proofs.Entries.{some_page-is, some_page-none}
+use Rattle.ct_walk.proofs.Cells.{count_below-skip, count_below-all}
+
+step : (img : List ℕ) (d e x : ℕ) → d ≡ suc e → page_at img d x ≡ next img (page_at img e (x / 512)) (x % 512)
+step img d e x is = ap (λ k. page_at img k x) is ∙ page_at-next img e x
+
+width : (d e : ℕ) → d ≡ suc e → 512 ^ e * 512 ≡ 512 ^ d
+width d e is = sym (pow-suc 512 e) ∙ ap (λ k. 512 ^ k) (sym is)
+
+pub finds_root : (img : List ℕ) (d x : ℕ) → d ≡ 0 → x < 512 ^ d → Finds img d x (Present 33)
+finds_root img d x is low =
+    let one : 512 ^ d ≡ 1 = ap (λ k. 512 ^ k) is in
+    let first : x ≡ 0 = omega (arith, one) in
+    (sym (ap (λ k. page_at img k x) is ∙ ap (page_at img 0) first ∙ page_at-root img), omega arith, omega arith)
+
+pub low_up : (d e x : ℕ) → d ≡ suc e → x < 512 ^ d → x / 512 < 512 ^ e
+low_up d e x is low = omega (arith, width d e is)
+
+pub finds_absent : (img : List ℕ) (d e x cells : ℕ) → d ≡ suc e → Finds img e (x / 512) (Absent cells) → Finds img d x (Absent (cells * 512 - x % 512))
+finds_absent img d e x cells is (some, within, none) = (
+  omega arith,
+  omega (arith, width d e is),
+  λ y from to. step img d e y is ∙ ap (λ t. next img t (y % 512)) (none (y / 512) (omega arith) (omega arith)) ∙ next-zero img (y % 512),
+)
+
+pub finds_some : (img : List ℕ) (d e x table page : ℕ) → d ≡ suc e → Finds img e (x / 512) (Present table) → Some page ≡ some_page (next img table (x % 512)) → page < 4503599627370496 → Finds img d x (Present page)
+finds_some img d e x table page is (at, there, fits) exact small =
+    let found = some_page-is page _ exact in
+    let here : page_at img d x ≡ next img table (x % 512) = step img d e x is ∙ ap (λ t. next img t (x % 512)) (sym at) in
+    (sym (here ∙ found.0), λ none. found.1 (found.0 ∙ none), small)
+
+pub finds_none : (img : List ℕ) (d e x table : ℕ) → d ≡ suc e → x < 512 ^ d → Finds img e (x / 512) (Present table) → None ≡ some_page (next img table (x % 512)) → Finds img d x (Absent 1)
+finds_none img d e x table is low (at, there, fits) exact =
+    let none : next img table (x % 512) ≡ 0 = some_page-none (next img table (x % 512)) exact in
+    let here : page_at img d x ≡ next img table (x % 512) = step img d e x is ∙ ap (λ t. next img t (x % 512)) (sym at) in
+    (omega arith, omega (arith, low), λ y from to. let same : y ≡ x = omega arith in ap (page_at img d) same ∙ here ∙ none)
+
+pub table_found : (img : List ℕ) (e x table : ℕ) → e ≤ 3 → Finds img e x (Present table) → IsSomeTable img table
+table_found img e x table le (at, there, fits) = record { depth = e; low = le; table = record { cell = x; is = sym at; there = there } }
+
+-- one cell further, or past those that are absent together
+pub absent_more : (img : List ℕ) (d total from x absent more : ℕ) → total + absent_below img d from ≡ absent_below img d x → (absent ≡ 0 → page_at img d x ≢ 0) → ((y : ℕ) → x ≤ y → y < x + absent → page_at img d y ≡ 0)
+    → (absent ≡ 0 → more ≡ 1) → (0 < absent → more ≡ absent) → total + absent + absent_below img d from ≡ absent_below img d (x + more)
+absent_more img d total from x absent more counted present none one many =
+    elim (cases_eq absent 0) [
+      | inl nought ↦
+          let skip = count_below-skip (λ y. page_at img d y == 0) x (x + 1) (omega arith) (λ y f t. let same : y ≡ x = omega arith in ne_eqb _ 0 (λ gone. present nought (ap (page_at img d) (sym same) ∙ gone))) in
+          let at : x + more ≡ x + 1 = omega (arith, one nought) in
+          omega (arith, counted, nought, skip, ap (absent_below img d) at)
+      | inr some ↦
+          let all = count_below-all (λ y. page_at img d y == 0) x (x + absent) (omega arith) (λ y f t. eq-eqb _ 0 (none y f t)) in
+          let at : x + more ≡ x + absent = omega (arith, many (omega (arith, some))) in
+          omega (arith, counted, all, ap (absent_below img d) at)
+    ]

@@ -1,0 +1,11 @@
+pub mod Blank
+pub mod Cells
+pub mod Entries
+pub mod Filling
+pub mod Finding
+pub mod Gives
+pub mod Grows
+pub mod Levels
+pub mod OneWay
+pub mod Slots
+pub mod Zeros

@@ -1,0 +1,9 @@
+use Rattle.ct_pm.specs.Device.{NothingPending}
+use Rattle.allocator_tests.specs.Ready.{IsReady}
+use Rattle.allocator_tests.proofs.volume.take_around.Given as goal
+
+abbrev pub invariant-loop-level : goal.invariant-loop-level
+invariant-loop-level g l = record {
+  ready : IsReady (g.D.Pm.words l.dev) l.frames;
+  settled : NothingPending (g.D.Pm.told l.dev);
+}

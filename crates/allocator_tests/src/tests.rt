@@ -1,0 +1,51 @@
+ghost use Rattle.std.specs.Prelude.{◌≤◌};
+
+use crate::volume::{empty, first_base, format, read, release_at, take_around, take_first};
+use std::test::Fail;
+
+// Where the headers begin: root slot 1.
+const HEADERS: u64 = 1 << 39;
+
+// The address of the header word of the first range of root slot 10.
+fn header_of(level: u32) -> u64
+    requires low { 2 ≤ level }
+    requires high { level ≤ 9 }
+{
+    let number = (10 << 27) >> (3 * level);
+    HEADERS + (1 << 36) + (level as u64 - 2) * (1 << 33) + 8 * number
+}
+
+#[test]
+fn a_partition_is_taken_and_released(rt: HostRuntime) -> Result<(), Fail> {
+    let (dev, mut frames) = empty(rt.alloc(), 128)?;
+    let dev = format(dev, &mut frames)?;
+    let (dev, base) = take_first(dev, &mut frames, 0)?;
+    assert_eq!(rt; base.get(), 5_497_558_138_880);
+    assert_eq!(rt; read(&dev, HEADERS + (80 << 24)), 0x10);
+    for level in 2..10u32 {
+        assert_eq!(rt; read(&dev, header_of(level)), 31 + level as u64);
+    }
+    assert_eq!(rt; read(&dev, HEADERS + (1 << 37) + 8), 0x29_3030);
+    assert_eq!(rt; first_base(&dev, 0), 5_497_558_142_976);
+    assert_eq!(rt; first_base(&dev, 1), 5_497_558_171_648);
+    assert_eq!(rt; first_base(&dev, 9), 11 << 39);
+    let dev = release_at(dev, &mut frames, 0, base)?;
+    assert_eq!(rt; read(&dev, HEADERS + (80 << 24)), 0);
+    for level in 2..10u32 {
+        assert_eq!(rt; read(&dev, header_of(level)), 0);
+    }
+    assert_eq!(rt; read(&dev, HEADERS + (1 << 37) + 8), 0x3030);
+    Ok(())
+}
+
+#[test]
+fn a_search_looks_at_few_bytes(rt: HostRuntime) -> Result<(), Fail> {
+    let (dev, mut frames) = empty(rt.alloc(), 128)?;
+    let dev = format(dev, &mut frames)?;
+    let dev = take_around(dev, &mut frames)?;
+    let before = dev.loads();
+    assert_eq!(rt; first_base(&dev, 0), 5_566_277_615_616);
+    // five loads for each of at most 574 bytes
+    assert!(rt; dev.loads().wrapping_sub(before) <= 2870);
+    Ok(())
+}

@@ -1,0 +1,17 @@
+//! The allocator: subdivision headers, read and drafted word by word.
+//!
+//! The one model: the header bytes of root slot 1 stand for a list of partitions that do not meet.
+#![tactic(auto)]
+
+mod address;
+mod change;
+mod draft;
+mod free;
+mod load;
+mod path;
+mod scan;
+mod sum;
+
+pub use address::{HeaderWords, words};
+pub use change::{release, take};
+pub use free::pick;

@@ -1,0 +1,16 @@
+//! The text of a script: a line as a call, and a reply as a line.
+#![tactic(auto)]
+
+mod line;
+mod number;
+mod quote;
+mod reply;
+mod scratch;
+#[cfg(test)]
+mod tests;
+mod verb;
+
+pub use line::parse;
+pub use quote::Quote;
+pub use reply::{Shown, put_end, put_name, put_names, put_reply};
+pub use scratch::Scratch;

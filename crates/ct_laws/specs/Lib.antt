@@ -1,2 +1,3 @@
 pub mod Cover
 pub mod Lines
+pub mod Tails

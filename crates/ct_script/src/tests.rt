@@ -1,6 +1,7 @@
 use crate::{Quote, Scratch, Shown, parse, put_end, put_name, put_names, put_reply};
-use ct_base::MemSink;
-use ct_tree::{Call, Refusal};
+use ct_base::{MemSink, WriteFault};
+use ct_tree::{Call, NameList, PlainTree, Refusal, Reply};
+use std::alloc::Global;
 use std::test::Fail;
 
 #[test]
@@ -171,5 +172,97 @@ fn a_line_has_a_limit(rt: HostRuntime) -> Result<(), Fail> {
     assert_eq!(rt; told(parse(&line, &mut scratch)), ("create", 65_529, 0, 0));
     line.push(b'\r')?;
     assert_eq!(rt; told(parse(&line, &mut scratch)), NONE);
+    Ok(())
+}
+
+/// The lines that answer a script over an empty plain tree.
+fn answers(alloc: Global, script: &str) -> Result<MemSink, Fail> {
+    let mut tree = PlainTree::new(alloc)?;
+    let mut scratch = Scratch::new(alloc)?;
+    let mut quote = Quote::new(alloc)?;
+    let mut out = MemSink::new(alloc, 1 << 16, Vec::new(alloc))?;
+    for line in script.split('\n') {
+        match parse(line.as_bytes(), &mut scratch) {
+            None => put_reply(&mut out, &Shown::BadLine)?,
+            Some(call) => {
+                let reply = tree.call(&call)?;
+                show(&mut out, &mut quote, &reply)?;
+            }
+        }
+    }
+    Ok(out)
+}
+
+fn show(out: &mut MemSink, quote: &mut Quote, reply: &Reply) -> Result<(), WriteFault> {
+    match reply {
+        Reply::Done => put_reply(out, &Shown::Done),
+        Reply::Data(data) => put_reply(out, &Shown::Data(data.as_slice())),
+        Reply::File(size) => put_reply(out, &Shown::File(*size)),
+        Reply::Dir(count) => put_reply(out, &Shown::Dir(*count)),
+        Reply::Names(names) => show_names(out, quote, names),
+        Reply::At { base, level } => put_reply(
+            out,
+            &Shown::At {
+                base: *base,
+                level: *level,
+            },
+        ),
+        Reply::Refused(refusal) => put_reply(out, &Shown::Refused(*refusal)),
+        Reply::BadLine => put_reply(out, &Shown::BadLine),
+    }
+}
+
+fn show_names(out: &mut MemSink, quote: &mut Quote, names: &NameList) -> Result<(), WriteFault> {
+    put_names(out)?;
+    for i in 0..10 {
+        match names.get(i) {
+            Some(name) if name.len() <= 248 => put_name(out, quote, name)?,
+            _ => break,
+        }
+    }
+    put_end(out)
+}
+
+#[test]
+fn scripts_are_answered_over_the_plain_tree(rt: HostRuntime) -> Result<(), Fail> {
+    let alloc = rt.alloc();
+    let table = [
+        (
+            "create /x/y\ncreate /a\ncreate /a/b",
+            "error not found\nok\nerror not a directory\n",
+        ),
+        (
+            "create /a\nwrite /a 4096 41\nread /a 4095 2\nstat /a",
+            "ok\nok\ndata 0041\nfile 4097\n",
+        ),
+        (
+            "create /a\nfill /a 0 10 65\ntruncate /a 5\ntruncate /a 4096\nread /a 3 4",
+            "ok\nok\nok\nok\ndata 41410000\n",
+        ),
+        (
+            "mkdir /d\nrename /d /d/e\nrename /d /d\nrename / /x",
+            "ok\nerror into itself\nok\nerror is the root\n",
+        ),
+        (
+            "create /a\ncreate /b\nfill /a 0 8192 65\nfill /b 0 12288 66\nexchange /a 0 /b 4096 8192\nread /a 0 2\nread /b 4095 2\nexchange /a 100 /b 0 4096\nexchange /b 0 /b 4096 8192",
+            "ok\nok\nok\nok\nok\ndata 4242\ndata 4241\nerror bad range\nerror overlap\n",
+        ),
+        (
+            "Create /a\ncreate  /a\nfill /a 007 1 1\ntruncate /a 18446744073709551616\ncreate /a/",
+            "error line\nerror line\nerror line\nerror line\nerror bad path\n",
+        ),
+        (
+            "mkdir /home\ncreate /home/notes.txt\nappend /home/notes.txt 48656c6c6f0a\nappend /home/notes.txt 776f726c640a\nread /home/notes.txt 0 64\nstat /home/notes.txt\nrename /home/notes.txt /home/old%20notes\nlist /home\nstat /home\nunlink /home/old%20notes\nrmdir /home\nstat /",
+            "ok\nok\nok\nok\ndata 48656c6c6f0a776f726c640a\nfile 12\nok\nnames old%20notes\ndir 1\nok\nok\ndir 0\n",
+        ),
+        (
+            "create /a\nwhere /a\nread /a 0 0\nlist /\nmkdir /d\nlist /d",
+            "ok\nat 0 15\ndata\nnames a\nok\nnames\n",
+        ),
+    ];
+    for (script, want) in table {
+        let out = answers(alloc, script)?;
+        assert_eq!(rt; out.bytes(), want.as_bytes(), "{script}");
+    }
     Ok(())
 }

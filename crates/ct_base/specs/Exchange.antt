@@ -24,7 +24,13 @@ pub record Exchanged (old new : List ℕ) (a b n : ℕ) : Type 0 where
   pub cells : (e p : ℕ) → e ≤ 4 → Outside a b n p → page_at new e (p / 512 ^ (4 - e)) ≡ page_at old e (p / 512 ^ (4 - e))
   -- the contents of pages stay
   pub contents : (p o : ℕ) → o < 512 → page_at old 4 p ≢ 0 → word new (page_at old 4 p * 512 + o) ≡ word old (page_at old 4 p * 512 + o)
+  -- where all begins and ends at multiples of 512 ^ k pages, the tables of so many pages change places too
+  pub within : (k c : ℕ) → k ≤ 3 → a % 512 ^ k ≡ 0 → b % 512 ^ k ≡ 0 → n % 512 ^ k ≡ 0
+      → page_at new (4 - k) c ≡ page_at old (4 - k) (partner (a / 512 ^ k) (b / 512 ^ k) (n / 512 ^ k) c)
+  -- and tables of more pages than are exchanged stay
+  pub above : (k c : ℕ) → k ≤ 4 → n < 512 ^ k → page_at new (4 - k) c ≡ page_at old (4 - k) c
   pub fresh : (q : ℕ) → IsFresh old q → IsFresh new q
+  pub reached : (q : ℕ) → IsFresh new q → IsFresh old q
   pub count : page_count new ≡ page_count old
   pub size : length new ≡ length old
 

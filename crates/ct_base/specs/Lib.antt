@@ -4,6 +4,7 @@ pub mod Ends
 pub mod Exchange
 pub mod Format
 pub mod Free
+pub mod Head
 pub mod Headers
 pub mod Inode
 pub mod Named
@@ -17,6 +18,7 @@ pub mod Rules
 pub mod Settled
 pub mod Slots
 pub mod Split
+pub mod State
 pub mod View
 pub mod Walk
 pub mod Wants

@@ -4,6 +4,9 @@ use Rattle.std.specs.Borrow.{Bor}
 use Rattle.std.specs.List.{list_all}
 use Rattle.std.specs.Str.{bytes_eq}
 use Rattle.std.specs.declared.option.Option.{Option}
+use Rattle.std.specs.declared.cmp.Ordering.{Ordering}
+use Rattle.std.specs.Ordering.{nat_cmp}
+use Rattle.std.specs.Cmp.Lexicographic.{slice_cmp}
 use Rattle.ct_base.specs.Split.{parts_at}
 
 -- the parts of a text between its slashes
@@ -36,3 +39,7 @@ names_of path = if nat_le (length path) 4096 then names_from path else None
 -- what a list of borrowed texts holds
 abbrev pub texts : List (Bor (List ℕ)) → List (List ℕ)
 texts names = map (λ n. n.now) names
+
+-- names in byte order: the first byte that differs decides, and else the shorter name is first
+abbrev pub name_cmp : List ℕ → List ℕ → Ordering
+name_cmp x y = slice_cmp nat_cmp x y

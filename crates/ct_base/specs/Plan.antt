@@ -5,7 +5,8 @@ use Rattle.ct_base.specs.declared.inode.Inode.{Inode}
 use Rattle.ct_base.specs.Inode.{inode, Partition, part, part_bytes, nth, free_parts, live_parts}
 use Rattle.ct_base.specs.Pieces.{pieces}
 use Rattle.ct_base.specs.Published.{words_above}
-use Rattle.ct_base.specs.Wants.{Want}
+use Rattle.ct_base.specs.View.{view, inode_count}
+use Rattle.ct_base.specs.Wants.{Want, missing}
 
 -- the least of the levels from n on whose length is at least `end`, in so many steps
 unfoldable pub level_from : ℕ → ℕ → ℕ → ℕ
@@ -52,6 +53,10 @@ move_wants f from to = table_want (exchange_height f.level + 1) from ∷ table_w
 
 abbrev pub growth_wants : Inode → Partition → List Want
 growth_wants f new = header_wants new ++ (if f.level == 15 then [] else move_wants f f.base new.base)
+
+-- the pages that the growth of an object to a level takes
+abbrev pub growth_need : List ℕ → Inode → ℕ → ℕ
+growth_need img f level = missing img (growth_wants f (next_part (view img) (inode_count img) level))
 
 -- Growth brings what the old partition has: a want in the new one counts where it comes from.
 abbrev pub counted : Inode → Partition → Want → Want

@@ -72,3 +72,8 @@ pub record IsRecord (words : List ℕ) : Type 0 where
   pub one : 0 < slice_index words 512 → slice_index words 527 ≡ 0
   pub long_targets : HaveTargets 528 (slice_index words 512) words
   pub short_targets : HaveTargets 520 (slice_index words 527) words
+
+-- the record is as it may be, and a long one has at most so many pairs
+pub record HasFewPairs (most : ℕ) (words : List ℕ) : Type 0 where
+  pub lawful : IsRecord words
+  pub few : slice_index words 512 ≤ most

@@ -2,6 +2,7 @@
 use Rattle.std.proofs.Common.{◌≡◌, ◌≢◌, ℕ, zero, suc, ◌+◌, ◌<◌, ◌≤◌, Bool, true, false, cond, List, [], ◌∷◌, length, get_or, subst, refl, sym, ap, ◌∙◌, ◌⊎◌, inl, inr, arith}
 use Rattle.std.proofs.lemmas.Bool.{cases_eq, cases_lt, cases_Bool, cond-true, cond-false, eq-eqb, ne_eqb, lt-ltb, le-ltb}
 use Rattle.std.specs.Prelude.{Contains}
+use Rattle.ct_base.specs.Free.{IsRising}
 use Rattle.ct_frames.specs.Free.{listed, inserted, without, rising}
 
 -- a test that is the same lists the same
@@ -199,3 +200,13 @@ keeps_inserted page q (x ∷ xs) c =
     go : (Contains xs q → Contains (inserted page xs) q) → Contains (x ∷ xs) q → Contains (x ∷ inserted page xs) q
     go more (zero, lt, e) = (0, omega arith, e)
     go more (suc k, lt, e) = let rest = more (k, omega arith, e) in (suc rest.0, omega (arith, rest.1), rest.2)
+
+-- what is listed rises
+pub listed_rising : (f : ℕ → Bool) (n lo : ℕ) → IsRising (listed f n lo)
+listed_rising f zero lo = tt
+listed_rising f (suc n) lo =
+    let rest = listed_rising f n (suc lo) in
+    elim (cases_Bool (f lo)) [
+      | inl t ↦ rw t (λ q c. omega (arith, (listed_passes f n (suc lo) q c).0), rest)
+      | inr u ↦ rw u rest
+    ]

@@ -1,4 +1,5 @@
 ghost use Rattle.std.specs.Prelude.{◌≡◌, ◌≢◌, ℕ, ◌+◌, ◌-◌, ◌*◌, ◌/◌, ◌%◌, ◌<◌, ◌≤◌, ◌↔◌, [], ◌∷◌, length, IsTrue, IsNone, IfSome, IfNone, IfOk, Contains};
+ghost use Rattle.ct_base.specs.Free.{IsRising};
 ghost use Rattle.ct_frames.specs.Free.{FreePages, inserted, without, rising};
 
 use crate::bits::{clear_bit, has_bit, lowest_bit, set_bit};
@@ -19,6 +20,7 @@ pub struct Frames {
 }
 
 impl Model for Frames {
+    ghost use Rattle.ct_base.specs.Free.{IsRising};
     ghost use Rattle.ct_frames.specs.Free.{FreePages, AreFrames, listed, is_set};
 
     ghost Value = { FreePages };
@@ -98,7 +100,9 @@ impl Frames {
 
     /// How many pages are free.
     pub fn free(&self) -> u64
-        ensures { result ≡ length self.now.free }
+        ensures count { result ≡ length self.now.free }
+        ensures rising { IsRising self.now.free }
+        ensures in_range { (q : ℕ) → Contains self.now.free q → (34 ≤ q) × (q < self.now.pages) }
     {
         self.free
     }

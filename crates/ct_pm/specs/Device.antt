@@ -3,7 +3,7 @@ use Rattle.std.specs.Prelude.{◌≡◌, ◌⊎◌, ℕ, zero, suc, ◌+◌, ◌
 use Rattle.std.specs.Option.{option_map}
 use Rattle.ct_pm.specs.declared.step.Step.{Step}
 use Rattle.ct_pm.specs.declared.step.Step.TheVariants.{Store, Flush, Fence}
-use Rattle.ct_pm.specs.Images.{History, IsAllowed, IsSettled, IsWrittenBack, WasAllowed}
+use Rattle.ct_pm.specs.Images.{History, reads, words_after, IsAllowed, IsSettled, IsWrittenBack, WasAllowed}
 
 -- the history with more steps, the newest first
 abbrev pub with_steps : List Step → Option History → Option History
@@ -82,6 +82,17 @@ pub record MakesOnly (P : ℕ → ℕ → Type 0) (old new : Option History) : T
   pub added : List Step
   pub goes_on : new ≡ with_steps added old
   pub each : EachStores P added
+
+-- each of the steps, made after a history, stores only what R allows over the words that read before it
+abbrev pub EachStoresOver : (List ℕ → ℕ → ℕ → Type 0) → History → List Step → Type 0
+EachStoresOver R past [] = Unit {0}
+EachStoresOver R past (step ∷ steps) = StoresOnly (R (words_after (reads past) steps)) step × EachStoresOver R past steps
+
+-- the history goes on by steps that store only what R allows over the words that read before each
+pub record StoresOver (R : List ℕ → ℕ → ℕ → Type 0) (old new : Option History) : Type 0 where
+  pub added : List Step
+  pub goes_on : new ≡ with_steps added old
+  pub each : IfSome old (λ past. EachStoresOver R past added)
 
 -- the value is the one of the list for this word, where the first one is for the word first
 abbrev pub IsValueOf : ℕ → List ℕ → ℕ → ℕ → Type 0

@@ -1,8 +1,8 @@
 // What holds of every history.
-ghost use Rattle.std.specs.Prelude.{◌≡◌, [], ◌∷◌, ℕ, List, Option, Some, Contains, length, ◌<◌};
+ghost use Rattle.std.specs.Prelude.{◌≡◌, [], ◌∷◌, ℕ, Bool, List, Option, Some, Contains, IsTrue, length, ◌+◌, ◌<◌, ◌≤◌};
 ghost use Rattle.ct_pm.specs.declared.step.Step.TheVariants.{Store, Flush, Fence};
-ghost use Rattle.ct_pm.specs.Images.{History, reads, SameLine, IsAllowed, IsSettled, IsWrittenBack};
-ghost use Rattle.ct_pm.specs.Device.{with_steps, QuietOff};
+ghost use Rattle.ct_pm.specs.Images.{History, at, first, reads, SameLine, IsAllowed, IsSettled, IsWrittenBack};
+ghost use Rattle.ct_pm.specs.Device.{with_steps, LeavesOnly, MakesOnly, QuietOff, StoresOver};
 
 /// After a fence, a line that was written back before it shows what it reads. So where every line was written back,
 /// nothing is pending.
@@ -23,4 +23,16 @@ pub fn steps_are_quiet()
     ensures flush { (told : Option History) (line : ℕ) → QuietOff (λ _. ⊥) told (with_steps (Flush line ∷ []) told) }
     ensures fence { (told : Option History) → QuietOff (λ _. ⊥) told (with_steps (Fence ∷ []) told) }
     ensures then { (moved : List ℕ) (old mid new : Option History) → QuietOff (Contains moved) old mid → QuietOff (Contains moved) mid new → QuietOff (Contains moved) old new }
+{}
+
+/// The words that read before a step are an image that a crash may leave then. So where each image of a stretch passes one
+/// test and each store another, each store that is made passes its test over words that pass theirs. Two such stretches make
+/// one, and a store is made over what reads at the moment before it.
+pub fn stores_are_made_over_images()
+    ensures over { (holds : List ℕ → Bool) (gives : ℕ → ℕ → Bool) (old new : Option History) → LeavesOnly old new (λ image. IsTrue (holds image)) →
+        MakesOnly (λ word value. IsTrue (gives word value)) old new → StoresOver (λ words word value. IsTrue (holds words) × IsTrue (gives word value)) old new }
+    ensures then { (may : List ℕ → ℕ → ℕ → Bool) (old mid new : Option History) → StoresOver (λ words word value. IsTrue (may words word value)) old mid →
+        StoresOver (λ words word value. IsTrue (may words word value)) mid new → StoresOver (λ words word value. IsTrue (may words word value)) old new }
+    ensures at { (may : List ℕ → ℕ → ℕ → Bool) (past h : History) (moment word value : ℕ) → StoresOver (λ words word value. IsTrue (may words word value)) (Some past) (Some h) →
+        length past.steps ≤ moment → first (moment + 1) h.steps ≡ Store word value ∷ first moment h.steps → IsTrue (may (reads (at moment h)) word value) }
 {}

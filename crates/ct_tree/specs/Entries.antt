@@ -5,8 +5,7 @@ use Rattle.std.specs.declared.option.Option.{Option}
 use Rattle.std.specs.declared.result.Result.{Result}
 use Rattle.std.specs.declared.cmp.Ordering.{Ordering}
 use Rattle.std.specs.declared.cmp.Ordering.TheVariants.{Less, Equal, Greater}
-use Rattle.std.specs.Ordering.{nat_cmp}
-use Rattle.std.specs.Cmp.Lexicographic.{slice_cmp}
+pub use Rattle.ct_base.specs.Path.{name_cmp}
 use Rattle.ct_tree.specs.Tree.{Tree, Entries, none, entry}
 
 -- one of three, by how two names compare
@@ -14,10 +13,6 @@ abbrev pub by_order : {A : Type 0} → Ordering → A → A → A → A
 by_order Less a b c = a
 by_order Equal a b c = b
 by_order Greater a b c = c
-
--- names in byte order: the first byte that differs decides, and else the shorter name is first
-abbrev pub name_cmp : List ℕ → List ℕ → Ordering
-name_cmp x y = slice_cmp nat_cmp x y
 
 -- the node under a name
 abbrev pub lookup : List ℕ → Entries → Option Tree

@@ -13,4 +13,5 @@ mod stop;
 mod tests;
 
 pub use call::{Bytes, Call, NameList, Refusal, Reply};
+pub use path::is_name;
 pub use plain::PlainTree;

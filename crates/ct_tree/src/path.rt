@@ -18,7 +18,8 @@ const DOTS: &[u8] = b"..";
 /// The longest path, in bytes.
 const PATH_BYTES: usize = 4096;
 
-fn is_name(name: &[u8]) -> bool
+/// Whether the bytes are a name: 1 to 248 of them, none of which is 0 or a slash, and neither `.` nor `..`.
+pub fn is_name(name: &[u8]) -> bool
     ensures { result ≡ is_name name.now }
 {
     if name.is_empty() {

@@ -10,10 +10,12 @@ use Rattle.ct_pm.proofs.Quiet.{quiet_then, quiet_settled}
 use Rattle.ct_pm.proofs.Fence.{settled_by_fence}
 use Rattle.ct_pm.proofs.Made.{makes_then, makes_weaker}
 use Rattle.ct_pm.proofs.OneWord.{Replays}
-use Rattle.ct_base.specs.Settled.{HasPages, Pair, with_pairs, pairs_at, pairs_behind, open_pairs, HaveTargets, IsRecord}
-use Rattle.ct_record.specs.Record.{SettlesTo, IsOpen, Stand, IsPlace, AreApplied}
+use Rattle.ct_base.specs.Settled.{HasFewPairs, HasPages, Pair, with_pairs, pairs_at, pairs_behind, open_pairs, HaveTargets, IsRecord}
+use Rattle.ct_record.specs.Record.{SettlesTo, IsOpen, OpensOnly, Stand, IsPlace, AreApplied}
 use Rattle.ct_base.specs.Settled.{Named, Gives}
 use Rattle.ct_image.proofs.Pairs.{length-with_pairs, with_pairs_off, with_pairs_twice, is_named, named_target, named_here, named_more, gives_here}
+use Rattle.ct_record.proofs.Lawful.{few_alike, moved_few}
+use Rattle.ct_record.proofs.Opens.{moved_opens}
 use Rattle.ct_record.proofs.Settles.{same_wider, open_alike, open_target, pairs_same, settles_moved}
 
 -- the pairs that are applied
@@ -130,12 +132,28 @@ module _ {from count : ℕ} {words : List ℕ} (place : IsPlace from count words
       let first = first_pairs from count some.0 words some.1 in
       (first.0, some.2 ∙ ap (λ (ps : List Pair). with_pairs ps words) (sym first.1) ∙ ap (λ (ps : List Pair). with_pairs (drop first.0 ps) words) place.pairs)
 
-  -- what was applied so far settles as before
-  pub some_settles : (new : List ℕ) → AreApplied from count words new → SettlesTo words new
-  some_settles new some =
+  pub applying_lawful : {old new : Option History} → Replays old words → NothingPending old → QuietOff (Named (pairs_at from count words)) old new → LeavesOnly old new (HasFewPairs (slice_index words 512))
+  applying_lawful replays settled run = weaker (HasFewPairs (slice_index words 512)) (λ image same. moved_few words image is same) (quiet_settled replays settled (open_quiet run))
+
+  -- what was applied so far moved what the pairs name
+  some_moved : (new : List ℕ) → AreApplied from count words new → SameOff (Named (open_pairs words)) new words
+  some_moved new some =
       let first = pairs_at from some.0 words in
-      settles_moved new words is (same_wider (λ word named. subst (λ (ps : List Pair). Named ps word) place.pairs (named_more from count some.0 words word some.1 named))
-      (subst (λ (l : List ℕ). SameOff (Named first) l words) (sym some.2) (pairs_same first words)))
+      same_wider (λ word named. subst (λ (ps : List Pair). Named ps word) place.pairs (named_more from count some.0 words word some.1 named))
+      (subst (λ (l : List ℕ). SameOff (Named first) l words) (sym some.2) (pairs_same first words))
+
+  -- so it settles as before
+  pub some_settles : (new : List ℕ) → AreApplied from count words new → SettlesTo words new
+  some_settles new some = settles_moved new words is (some_moved new some)
+
+  pub applying_opens : {old new : Option History} → Replays old words → NothingPending old → QuietOff (Named (pairs_at from count words)) old new → LeavesOnly old new (OpensOnly (open_pairs words))
+  applying_opens replays settled run = weaker (OpensOnly (open_pairs words)) (λ image same. moved_opens words image is same) (quiet_settled replays settled (open_quiet run))
+
+  pub some_opens : (new : List ℕ) → AreApplied from count words new → OpensOnly (open_pairs words) new
+  some_opens new some = moved_opens words new is (some_moved new some)
+
+  pub some_lawful : (new : List ℕ) → AreApplied from count words new → HasFewPairs (slice_index words 512) new
+  some_lawful new some = moved_few words new is (some_moved new some)
 
   pub applied_fenced : {T E : Type 0} {r : Result T E} {old mid new : Option History} (now : List ℕ) → Replays old words → NothingPending old → QuietOff (Named (pairs_at from count words)) old mid
       → now ≡ with_pairs (pairs_at from count words) words → Replays mid now → ((word : ℕ) → Named (pairs_at from count words) word → WrittenBack mid (word / 8)) → AddsStep r Fence mid new → OnOk r (NothingPending new)
@@ -161,24 +179,7 @@ module _ {words : List ℕ} (is : IsRecord words) (pages : HasPages words) where
   applied_gates = (off 512 (omega arith), off 527 (omega arith))
 
   pub applied_record : IsRecord (with_pairs (open_pairs words) words)
-  applied_record =
-      let new = with_pairs (open_pairs words) words in
-      let two : slice_index new 2 ≡ slice_index words 2 = off 2 (omega arith) in
-      let long = applied_gates.0 in
-      let short = applied_gates.1 in
-      record {
-        long = omega (arith, long, is.long);
-        short = omega (arith, short, is.short);
-        one = λ some. short ∙ is.one (omega (arith, long));
-        long_targets = λ k below.
-            let target = is.long_targets k (omega (arith, long)) in
-            let there : slice_index new (528 + 2 * k) ≡ slice_index words (528 + 2 * k) = off (528 + 2 * k) (omega (arith, long, is.long)) in
-            (omega (arith, target.0), omega (arith, target.1));
-        short_targets = λ k below.
-            let target = is.short_targets k (omega (arith, short)) in
-            let there : slice_index new (520 + 2 * k) ≡ slice_index words (520 + 2 * k) = off (520 + 2 * k) (omega (arith, short, is.short)) in
-            (omega (arith, target.0), omega (arith, target.1));
-      }
+  applied_record = (few_alike words (with_pairs (open_pairs words) words) is off).lawful
 
   pub applied_still : IsOpen words → IsOpen (with_pairs (open_pairs words) words)
   applied_still opened = omega (arith, opened, applied_gates.0, applied_gates.1)

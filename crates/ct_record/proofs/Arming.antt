@@ -11,11 +11,12 @@ use Rattle.ct_pm.proofs.Told.{weaker}
 use Rattle.ct_pm.proofs.Quiet.{same_off_set}
 use Rattle.ct_pm.proofs.Fence.{settled_by_fence}
 use Rattle.ct_pm.proofs.OneWord.{Replays}
-use Rattle.ct_base.specs.Settled.{HasPages, with_pairs, pairs_at, pairs_behind, open_pairs, IsShut, IsRecord}
+use Rattle.ct_base.specs.Settled.{HasFewPairs, HasPages, with_pairs, pairs_at, pairs_behind, open_pairs, IsShut, IsRecord}
 use Rattle.ct_record.specs.Record.{InRecord, SettlesTo, IsOpen, IsTouched, IsFull, IsAll, IsNoneOrAll}
 use Rattle.ct_base.specs.Settled.{Named}
 use Rattle.ct_image.proofs.Pairs.{with_pairs_off, named_target, pairs_at_alike}
 use Rattle.ct_record.proofs.Settles.{same_refl, same_sym, same_then, same_wider, settles_applied}
+use Rattle.ct_record.proofs.Lawful.{shut_few}
 use Rattle.ct_record.proofs.Moments.{quiet_keeps, now_of}
 use Rattle.ct_record.proofs.Drafts.{settles_touched, shut_touched}
 
@@ -87,6 +88,12 @@ module _ {count : ℕ} {words : List ℕ} (full : IsFull count words) where
       weaker (IsNoneOrAll (pairs_at 528 count words) words) (λ image same. inl (shut_touched count words image full.shut same, settles_touched count words image full.shut same))
       (quiet_keeps (SameOff (IsTouched count) words) (λ image base moved is. same_then is (same_sym (same_wider (λ word none. absurd none) moved))) now run)
 
+  -- the record is lawful then
+  pub none_lawful : {old new : Option History} → EachNow old (SameOff (IsTouched count) words) → QuietOff (λ _. ⊥) old new → LeavesOnly old new (HasFewPairs count)
+  none_lawful now run =
+      weaker (HasFewPairs count) (λ image same. shut_few count image (shut_touched count words image full.shut same))
+      (quiet_keeps (SameOff (IsTouched count) words) (λ image base moved is. same_then is (same_sym (same_wider (λ word none. absurd none) moved))) now run)
+
   -- the fence before the gate leaves nothing pending
   pub fenced_pairs : {T E : Type 0} {r : Result T E} {old mid new : Option History} → EachNow old (SameOff (IsTouched count) words) → QuietOff (λ _. ⊥) old mid → Replays mid words
       → ((word : ℕ) → IsTouched count word → WrittenBack mid (word / 8)) → AddsStep r Fence mid new → OnOk r (NothingPending new)
@@ -100,6 +107,11 @@ module _ {count : ℕ} {words : List ℕ} (full : IsFull count words) where
   pub gate_moves : (image : List ℕ) → (image ≡ words) ⊎ (image ≡ set words 512 count) → IsNoneOrAll (pairs_at 528 count words) words image
   gate_moves image (inl is) = inl (subst IsShut (sym is) full.shut, subst (SettlesTo words) (sym is) (same_refl _))
   gate_moves image (inr is) = inr (ap open_pairs is ∙ armed_pairs, subst (SettlesTo (with_pairs (pairs_at 528 count words) words)) (sym is) armed_settles)
+
+  -- and the record is lawful either way
+  pub gate_lawful : (image : List ℕ) → (image ≡ words) ⊎ (image ≡ set words 512 count) → HasFewPairs count image
+  gate_lawful image (inl is) = subst (HasFewPairs count) (sym is) (shut_few count words full.shut)
+  gate_lawful image (inr is) = subst (HasFewPairs count) (sym is) (record { lawful = armed_record; few = omega (arith, gate) })
 
   pub armed_all : IsAll (pairs_at 528 count words) words (set words 512 count)
   armed_all = (armed_pairs, armed_settles)

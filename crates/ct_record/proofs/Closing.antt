@@ -4,8 +4,9 @@ use Rattle.std.specs.Prelude.{slice_index}
 use Rattle.std.proofs.lemmas.List.{get_or-set_same, get_or-set_other}
 use Rattle.ct_pm.specs.Device.{SameOff}
 use Rattle.ct_pm.proofs.Quiet.{same_off_set}
-use Rattle.ct_base.specs.Settled.{HasPages, IsShut, IsRecord}
+use Rattle.ct_base.specs.Settled.{HasFewPairs, HasPages, IsShut, IsRecord}
 use Rattle.ct_record.specs.Record.{InRecord, SettlesTo, Stand}
+use Rattle.ct_record.proofs.Lawful.{few_here, shut_few}
 use Rattle.ct_record.proofs.Settles.{same_refl, settles_stands}
 
 pub shut_long : (words : List ℕ) → HasPages words → IsRecord words → 0 < slice_index words 512 → IsShut (set words 512 0)
@@ -20,6 +21,11 @@ pub close_moves : (gate : ℕ) (words : List ℕ) → InRecord gate → IsShut (
 close_moves gate words inside shut stand image (inl is) = subst (SettlesTo words) (sym is) (same_refl _)
 close_moves gate words inside shut stand image (inr is) =
     subst (SettlesTo words) (sym is) (settles_stands (set words gate 0) words shut stand (same_off_set InRecord words words gate 0 inside (same_refl words)))
+
+-- the record is lawful before and after
+pub close_lawful : (gate : ℕ) (words : List ℕ) → IsRecord words → IsShut (set words gate 0) → (image : List ℕ) → (image ≡ words) ⊎ (image ≡ set words gate 0) → HasFewPairs (slice_index words 512) image
+close_lawful gate words was shut image (inl is) = subst (HasFewPairs (slice_index words 512)) (sym is) (few_here words was)
+close_lawful gate words was shut image (inr is) = subst (HasFewPairs (slice_index words 512)) (sym is) (shut_few (slice_index words 512) (set words gate 0) shut)
 
 -- both outcomes of a commit to a gate
 pub close_same : (gate : ℕ) (words new : List ℕ) → InRecord gate → (new ≡ words) ⊎ (new ≡ set words gate 0) → SameOff InRecord new words

@@ -58,6 +58,11 @@ draft_settles count was few shut now run =
     weaker (SettlesTo was) (λ image same. settles_touched count was image shut same)
     (quiet_keeps (SameOff (IsTouched count) was) (λ image base moved is. same_then is (same_sym (same_wider (λ word inside. touched count word few inside) moved))) now run)
 
+pub draft_shut : {old new : Option History} (count : ℕ) (was : List ℕ) → count < 8184 → IsShut was → EachNow old (SameOff (IsTouched count) was) → QuietOff (IsIn (528 + 2 * count) 2) old new → LeavesOnly old new IsShut
+draft_shut count was few shut now run =
+    weaker IsShut (λ image same. shut_touched count was image shut same)
+    (quiet_keeps (SameOff (IsTouched count) was) (λ image base moved is. same_then is (same_sym (same_wider (λ word inside. touched count word few inside) moved))) now run)
+
 pub same_shut : (count : ℕ) (was new : List ℕ) → SameOff (IsIn (528 + 2 * count) 2) new was → IsShut was → IsShut new
 same_shut count was new same shut = (same.others 512 (λ is. omega (arith, is.0)) ∙ shut.0, same.others 527 (λ is. omega (arith, is.0)) ∙ shut.1)
 

@@ -6,3 +6,6 @@ pub mod Applying
 pub mod Closing
 pub mod Whole
 pub mod Chain
+pub mod Under
+pub mod Lawful
+pub mod Opens

@@ -1,5 +1,5 @@
 -- What an image settles to.
-use Rattle.std.proofs.Common.{◌≡◌, ◌⊎◌, ℕ, ◌≤◌, zero, suc, List, [], refl, sym, ◌∙◌, ap₂, subst, inl, inr, arith}
+use Rattle.std.proofs.Common.{◌≡◌, ◌⊎◌, ℕ, ◌≤◌, zero, suc, List, [], length, refl, sym, ◌∙◌, ap₂, subst, inl, inr, arith}
 use Rattle.std.specs.Prelude.{slice_index}
 use Rattle.std.proofs.lemmas.Bool.{cases_lt}
 use Rattle.ct_pm.specs.Device.{SameOff}
@@ -56,6 +56,10 @@ applied_alike pairs a b same = record {
   others = λ word off. with_pairs_alike pairs a b word same.size (λ unnamed. same.others word (λ is. elim is [ inl inside ↦ off inside | inr named ↦ unnamed named ]));
 }
 
+pub length-settled : (words : List ℕ) → length (settled words) ≡ length words
+unfolding settled
+length-settled words = length-with_pairs cleared (with_pairs (open_pairs words) words) ∙ length-with_pairs (open_pairs words) words
+
 -- an image settles as its applied pairs do
 pub settles_by : (image words : List ℕ) → SameOff InRecord (with_pairs (open_pairs image) image) (with_pairs (open_pairs words) words) → SettlesTo words image
 unfolding settled
@@ -96,23 +100,27 @@ settles_moved image words is same =
     (open_alike image words is (λ word inside. same.others word (λ named. let target = open_target words word is named in omega (arith, inside.1, target.0))))
     (same_wider (λ word named. inr named) same)
 
-cleared_off : (word : ℕ) → 16896 ≤ word → (IsStaging word → ⊥) → Named cleared word → ⊥
+-- what is cleared is a gate or a staging slot
+pub cleared_in : (word : ℕ) → Named cleared word → InRecord word ⊎ IsStaging word
 unfolding cleared
-cleared_off word from off named = elim named [
-  | inl e ↦ omega arith
+cleared_in word named = elim named [
+  | inl e ↦ inl (omega arith, omega arith)
   | inr n1 ↦ elim n1 [
-    | inl e ↦ omega arith
+    | inl e ↦ inl (omega arith, omega arith)
     | inr n2 ↦ elim n2 [
-      | inl e ↦ off (omega arith, omega arith)
+      | inl e ↦ inr (omega arith, omega arith)
       | inr n3 ↦ elim n3 [
-        | inl e ↦ off (omega arith, omega arith)
+        | inl e ↦ inr (omega arith, omega arith)
         | inr n4 ↦ elim n4 [
-          | inl e ↦ off (omega arith, omega arith)
+          | inl e ↦ inr (omega arith, omega arith)
           | inr n5 ↦ elim n5 [
-            | inl e ↦ off (omega arith, omega arith)
+            | inl e ↦ inr (omega arith, omega arith)
             | inr n6 ↦ elim n6 [
-              | inl e ↦ off (omega arith, omega arith)
-              | inr n7 ↦ elim n7 [ inl e ↦ off (omega arith, omega arith) | inr n8 ↦ elim n8 [ inl e ↦ off (omega arith, omega arith) | inr n9 ↦ elim n9 [ inl e ↦ off (omega arith, omega arith) | inr none ↦ none ] ] ]
+              | inl e ↦ inr (omega arith, omega arith)
+              | inr n7 ↦ elim n7 [
+                | inl e ↦ inr (omega arith, omega arith)
+                | inr n8 ↦ elim n8 [ inl e ↦ inr (omega arith, omega arith) | inr n9 ↦ elim n9 [ inl e ↦ inr (omega arith, omega arith) | inr none ↦ absurd none ] ]
+              ]
             ]
           ]
         ]
@@ -120,6 +128,9 @@ cleared_off word from off named = elim named [
     ]
   ]
 ]
+
+cleared_off : (word : ℕ) → 16896 ≤ word → (IsStaging word → ⊥) → Named cleared word → ⊥
+cleared_off word from off named = elim (cleared_in word named) [ inl inside ↦ omega (arith, inside.1) | inr staging ↦ off staging ]
 
 -- off the staging slots the settled image is the one with its pairs applied
 pub settled_reads : (words : List ℕ) (word : ℕ) → 16896 ≤ word → (IsStaging word → ⊥) → slice_index (settled words) word ≡ slice_index (with_pairs (open_pairs words) words) word

@@ -1,44 +1,23 @@
 -- A record from its begin to its end.
-use Rattle.std.proofs.Common.{◌≡◌, ℕ, List, Option, sym, ◌∙◌, ap, subst, inl, inr, arith}
+use Rattle.std.proofs.Common.{◌≡◌, ℕ, List, Option, sym, ◌∙◌, ap, subst, inl, inr}
 use Rattle.ct_pm.specs.Images.{History}
-use Rattle.ct_pm.specs.Device.{EachNow, LeavesOnly, NothingPending, SameOff}
+use Rattle.ct_pm.specs.Device.{EachNow, LeavesOnly, SameOff}
 use Rattle.ct_pm.proofs.Told.{started, and_then, weaker}
-use Rattle.ct_pm.proofs.OneWord.{Replays}
 use Rattle.ct_base.specs.Settled.{Pair, with_pairs, pairs_at, open_pairs, HaveTargets, IsShut}
 use Rattle.ct_record.specs.Record.{InRecord, SettlesTo, SettlesToEither, AreApart, IsDrafted, IsTouched, IsNoneOrAll}
-use Rattle.ct_image.proofs.Pairs.{with_pairs_off, named_target}
+use Rattle.ct_image.proofs.Pairs.{named_target}
+use Rattle.ct_record.proofs.Lawful.{pairs_shut}
 use Rattle.ct_record.proofs.Settles.{same_refl, same_then, same_wider, settles_shut, applied_alike}
-use Rattle.ct_record.proofs.Moments.{each_settled, now_of}
-use Rattle.ct_record.proofs.Drafts.{settles_touched}
-
-pub drafted_begin : (told : Option History) (words : List ℕ) → Replays told words → NothingPending told → IsShut words → IsDrafted words words told told
-drafted_begin told words replays settled shut = record {
-  was_shut = shut;
-  shut = shut;
-  same = same_refl words;
-  moments = started told (SettlesTo words) (each_settled told words (SettlesTo words) replays settled (same_refl _));
-}
-
--- a further call on the draft
-pub drafted_then : {was words new : List ℕ} {start mid told : Option History} → IsDrafted was words start mid → IsShut new → SameOff InRecord new words → LeavesOnly mid told (SettlesTo words) → IsDrafted was new start told
-drafted_then {was = was} {words = words} drafted shut same moments = record {
-  was_shut = drafted.was_shut;
-  shut = shut;
-  same = same_then same drafted.same;
-  moments = and_then drafted.moments (weaker (SettlesTo was) (λ image settles. same_then settles (settles_shut words was drafted.shut drafted.was_shut drafted.same)) moments);
-}
+use Rattle.ct_record.proofs.Moments.{now_of}
+use Rattle.ct_record.proofs.Drafts.{settles_touched, shut_touched}
 
 pub apart_at : (count : ℕ) (words : List ℕ) → HaveTargets 528 count words → AreApart (pairs_at 528 count words)
 apart_at count words targets word named = (named_target 528 count words word targets named).0
 
-shut_pairs : (pairs : List Pair) (words : List ℕ) → AreApart pairs → IsShut words → IsShut (with_pairs pairs words)
-shut_pairs pairs words apart shut =
-    (with_pairs_off pairs words 512 (λ named. let low = apart 512 named in omega arith) ∙ shut.0, with_pairs_off pairs words 527 (λ named. let low = apart 527 named in omega arith) ∙ shut.1)
-
 module _ {was words : List ℕ} {start mid : Option History} (drafted : IsDrafted was words start mid) (pairs : List Pair) (apart : AreApart pairs) where
   pub all_settles : SettlesTo (with_pairs pairs was) (with_pairs pairs words)
   all_settles =
-      settles_shut (with_pairs pairs words) (with_pairs pairs was) (shut_pairs pairs words apart drafted.shut) (shut_pairs pairs was apart drafted.was_shut)
+      settles_shut (with_pairs pairs words) (with_pairs pairs was) (pairs_shut pairs words apart drafted.shut) (pairs_shut pairs was apart drafted.was_shut)
       (applied_alike pairs words was (same_wider (λ word inside. inl inside) drafted.same))
 
   none_settles : SettlesTo was words
@@ -72,6 +51,7 @@ drafted_here told count words shut images = record {
   shut = shut;
   same = same_refl words;
   moments = started told (SettlesTo words) (now_of told (SettlesTo words) (SameOff (IsTouched count) words) (λ image same. settles_touched count words image shut same) images);
+  each_shut = started told IsShut (now_of told IsShut (SameOff (IsTouched count) words) (λ image same. shut_touched count words image shut same) images);
 }
 
 -- a whole record behind what was drafted

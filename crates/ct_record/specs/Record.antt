@@ -1,5 +1,5 @@
 -- What an image settles to while a record is drafted, armed, applied and closed.
-use Rattle.std.specs.Prelude.{◌≡◌, ◌⊎◌, ℕ, ◌+◌, ◌*◌, ◌<◌, ◌≤◌, List, Option, slice_index}
+use Rattle.std.specs.Prelude.{◌≡◌, ◌⊎◌, ℕ, ◌+◌, ◌*◌, ◌<◌, ◌≤◌, List, [], Option, length, slice_index}
 use Rattle.ct_base.specs.Settled.{Pair, with_pairs, pairs_at, open_pairs, settled, IsShut, HasPages, HaveTargets, Named}
 use Rattle.ct_pm.specs.Images.{History}
 use Rattle.ct_pm.specs.Device.{LeavesOnly, SameOff, IsIn}
@@ -12,9 +12,18 @@ InRecord = IsIn 512 16384
 abbrev pub SettlesTo : List ℕ → List ℕ → Type 0
 SettlesTo words image = SameOff InRecord (settled image) (settled words)
 
+-- the image has as many words, and page 0 is the same
+pub record KeepsHead (words image : List ℕ) : Type 0 where
+  pub size : length image ≡ length words
+  pub head : (word : ℕ) → word < 512 → slice_index image word ≡ slice_index words word
+
 -- a gate is open
 abbrev pub IsOpen : List ℕ → Type 0
 IsOpen words = 0 < slice_index words 512 + slice_index words 527
+
+-- no record is open in the image, or one of just these pairs
+abbrev pub OpensOnly : List Pair → List ℕ → Type 0
+OpensOnly pairs image = (open_pairs image ≡ []) ⊎ (open_pairs image ≡ pairs)
 
 -- the open pairs were applied
 abbrev pub Stand : List ℕ → Type 0
@@ -72,3 +81,4 @@ pub record IsDrafted (was words : List ℕ) (start told : Option History) : Type
   pub shut : IsShut words
   pub same : SameOff InRecord words was
   pub moments : LeavesOnly start told (SettlesTo was)
+  pub each_shut : LeavesOnly start told IsShut

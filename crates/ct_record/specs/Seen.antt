@@ -1,6 +1,6 @@
 -- What callers see of a record in each of its states.
 use Rattle.std.specs.Prelude.{ℕ, Option, List, Result, Ok, Err}
-use Rattle.ct_base.specs.Settled.{Pair, pairs_at, with_pairs}
+use Rattle.ct_base.specs.Settled.{Pair, IsShut, pairs_at, with_pairs}
 use Rattle.ct_pm.specs.Images.{History}
 use Rattle.ct_pm.specs.Device.{SameOff, MakesOnly, LeavesOnly}
 use Rattle.ct_record.specs.declared.idle.Idle.{Idle}
@@ -66,3 +66,5 @@ pub record Drafts {D : Type 0} {bound : _} (old new : Draft D bound) : Type 0 wh
   -- a crash at any moment leaves what settles as it would without the pairs, and so do the words as they read
   pub moments : LeavesOnly (told_under old) (told_under new) (SettlesTo (words_under old))
   pub reads : SettlesTo (words_under old) (words_under new)
+  -- and both gates are closed in it
+  pub shut : LeavesOnly (told_under old) (told_under new) IsShut

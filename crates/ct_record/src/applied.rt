@@ -1,9 +1,9 @@
-ghost use Rattle.std.specs.Prelude.{◌≡◌, ◌≤◌, OnOk};
+ghost use Rattle.std.specs.Prelude.{◌≡◌, ◌≤◌, OnOk, slice_index};
 ghost use Rattle.std.proofs.Props.{props};
 ghost use Rattle.ct_base.specs.Causes.{HasCause};
-ghost use Rattle.ct_base.specs.Settled.{HasPages, IsShut, IsRecord};
+ghost use Rattle.ct_base.specs.Settled.{open_pairs, HasFewPairs, HasPages, IsShut, IsRecord};
 ghost use Rattle.ct_pm.specs.Device.{LeavesOnly, MakesOnly, NothingPending, SameOff};
-ghost use Rattle.ct_record.specs.Record.{IsOpen, Stand, InRecord, StaysInRecord, SettlesTo};
+ghost use Rattle.ct_record.specs.Record.{IsOpen, OpensOnly, Stand, InRecord, StaysInRecord, SettlesTo};
 
 use crate::gate::close_gate;
 use crate::{Broken, Idle};
@@ -51,6 +51,15 @@ impl<D: Pm> Applied<D> {
         // A crash at any moment leaves what settles as the words at entry do, and so do the words as they read.
         ensures any_moment { LeavesOnly (D.told (applied_dev self)) (D.told (after_finish result)) (SettlesTo (D.words (applied_dev self))) }
         ensures reads { SettlesTo (D.words (applied_dev self)) (D.words (after_finish result)) }
+
+        // The record is lawful in it, with no more pairs than the long gate counts at entry, and so it is in the words as
+        // they read.
+        ensures lawful { LeavesOnly (D.told (applied_dev self)) (D.told (after_finish result)) (HasFewPairs (slice_index (D.words (applied_dev self)) 512)) }
+        ensures reads_lawful { HasFewPairs (slice_index (D.words (applied_dev self)) 512) (D.words (after_finish result)) }
+
+        // No other pairs are ever open.
+        ensures opens { LeavesOnly (D.told (applied_dev self)) (D.told (after_finish result)) (OpensOnly (open_pairs (D.words (applied_dev self)))) }
+        ensures reads_opens { OpensOnly (open_pairs (D.words (applied_dev self))) (D.words (after_finish result)) }
         ensures cause { HasCause (D.faults (applied_dev self)) (D.faults (after_finish result)) result }
     {
         let Applied { mut dev } = self;

@@ -1,9 +1,9 @@
-ghost use Rattle.std.specs.Prelude.{◌≡◌, ◌≤◌, ℕ, OnOk, OnErr, drop};
+ghost use Rattle.std.specs.Prelude.{◌≡◌, ◌≤◌, ℕ, OnOk, OnErr, drop, slice_index};
 ghost use Rattle.std.proofs.Props.{props};
 ghost use Rattle.ct_base.specs.Causes.{HasCause};
-ghost use Rattle.ct_base.specs.Settled.{HasPages, IsRecord, with_pairs, open_pairs};
+ghost use Rattle.ct_base.specs.Settled.{HasFewPairs, HasPages, IsRecord, with_pairs, open_pairs};
 ghost use Rattle.ct_pm.specs.Device.{LeavesOnly, MakesOnly, NothingPending};
-ghost use Rattle.ct_record.specs.Record.{IsOpen, SettlesTo};
+ghost use Rattle.ct_record.specs.Record.{IsOpen, OpensOnly, SettlesTo};
 ghost use Rattle.ct_base.specs.Settled.{Gives};
 
 use crate::pair::apply_record;
@@ -45,6 +45,15 @@ impl<D: Pm> Armed<D> {
         // A crash at any moment leaves what settles as the words at entry do, and so do the words as they read.
         ensures any_moment { LeavesOnly (D.told (armed_dev self)) (D.told (after_apply result)) (SettlesTo (D.words (armed_dev self))) }
         ensures reads { SettlesTo (D.words (armed_dev self)) (D.words (after_apply result)) }
+
+        // The record is lawful in it, with no more pairs than the long gate counts at entry, and so it is in the words as
+        // they read.
+        ensures lawful { LeavesOnly (D.told (armed_dev self)) (D.told (after_apply result)) (HasFewPairs (slice_index (D.words (armed_dev self)) 512)) }
+        ensures reads_lawful { HasFewPairs (slice_index (D.words (armed_dev self)) 512) (D.words (after_apply result)) }
+
+        // No other pairs are ever open.
+        ensures opens { LeavesOnly (D.told (armed_dev self)) (D.told (after_apply result)) (OpensOnly (open_pairs (D.words (armed_dev self)))) }
+        ensures reads_opens { OpensOnly (open_pairs (D.words (armed_dev self))) (D.words (after_apply result)) }
 
         // Each store gives a word the value that one of the pairs has for it.
         ensures made { MakesOnly (Gives (open_pairs (D.words (armed_dev self)))) (D.told (armed_dev self)) (D.told (after_apply result)) }

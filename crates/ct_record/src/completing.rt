@@ -1,8 +1,8 @@
 ghost use Rattle.std.specs.Prelude.{◌≡◌, ◌<◌, ◌⊎◌, OnOk};
 ghost use Rattle.ct_base.specs.Causes.{HasCause};
-ghost use Rattle.ct_base.specs.Settled.{IsShut, Gives, with_pairs};
+ghost use Rattle.ct_base.specs.Settled.{HasFewPairs, IsShut, Gives, with_pairs};
 ghost use Rattle.ct_pm.specs.Device.{LeavesOnly, MakesOnly, NothingPending, SameOff};
-ghost use Rattle.ct_record.specs.Record.{InRecord, SettlesToEither};
+ghost use Rattle.ct_record.specs.Record.{InRecord, OpensOnly, SettlesToEither};
 ghost use Rattle.ct_record.specs.Seen.{count_of, pairs_of, words_under, told_under, faults_under, after_finish};
 
 use crate::{Broken, Draft, Idle};
@@ -24,6 +24,14 @@ pub fn complete<D: Pm>(draft: Draft<D>) -> Result<Idle<D>, Broken<D>>
     // A crash at any moment leaves what settles to the words before or after, and so do the words as they read.
     ensures any_moment { LeavesOnly (told_under draft) (D.told (after_finish result)) (SettlesToEither (pairs_of draft) (words_under draft)) }
     ensures reads { SettlesToEither (pairs_of draft) (words_under draft) (D.words (after_finish result)) }
+
+    // The record is lawful in it, with no more pairs than the draft has, and so it is in the words as they read.
+    ensures lawful { LeavesOnly (told_under draft) (D.told (after_finish result)) (HasFewPairs (count_of draft)) }
+    ensures reads_lawful { HasFewPairs (count_of draft) (D.words (after_finish result)) }
+
+    // No other pairs are ever open.
+    ensures opens { LeavesOnly (told_under draft) (D.told (after_finish result)) (OpensOnly (pairs_of draft)) }
+    ensures reads_opens { OpensOnly (pairs_of draft) (D.words (after_finish result)) }
 
     // Off pages 1 to 32 each store gives a word the value that one of the pairs has for it.
     ensures made { MakesOnly (λ word value. InRecord word ⊎ Gives (pairs_of draft) word value) (told_under draft) (D.told (after_finish result)) }

@@ -1,7 +1,7 @@
 ghost use Rattle.std.specs.Prelude.{◌≡◌, ◌<◌, ◌≤◌, ◌+◌, ◌*◌, [], ◌∷◌, OnOk, OnErr, length, slice_index};
 ghost use Rattle.std.proofs.Props.{props};
 ghost use Rattle.ct_base.specs.Causes.{HasCause};
-ghost use Rattle.ct_base.specs.Settled.{HasPages, IsShut, HaveTargets, IsTarget, with_pairs};
+ghost use Rattle.ct_base.specs.Settled.{HasFewPairs, HasPages, IsShut, HaveTargets, IsTarget, with_pairs};
 ghost use Rattle.ct_pm.specs.Device.{EachNow, SameOff, LeavesOnly, MakesOnly, NothingPending};
 ghost use Rattle.ct_record.specs.Record.{IsTouched, InRecord, SettlesTo, StaysInRecord, IsAll, IsNoneOrAll};
 
@@ -107,6 +107,10 @@ impl<D: Pm> Draft<D> {
         // A crash at any moment leaves none of the pairs behind an open gate, or all.
         ensures any_moment { LeavesOnly (told_under self) (D.told (after_arm result)) (IsNoneOrAll (pairs_of self) (words_under self)) }
         ensures reads { IsNoneOrAll (pairs_of self) (words_under self) (D.words (after_arm result)) }
+
+        // The record is lawful in it, with no more pairs than the draft has, and so it is in the words as they read.
+        ensures lawful { LeavesOnly (told_under self) (D.told (after_arm result)) (HasFewPairs (count_of self)) }
+        ensures reads_lawful { HasFewPairs (count_of self) (D.words (after_arm result)) }
 
         // Off pages 1 to 32 no word changes.
         ensures same { SameOff InRecord (D.words (after_arm result)) (words_under self) }

@@ -1,9 +1,9 @@
 // Pairs on the device: where they are stored, read and applied.
 ghost use Rattle.std.specs.Prelude.{◌≡◌, ◌<◌, ◌≤◌, ◌+◌, ◌*◌, ◌/◌, ◌⊎◌, ℕ, OnOk, OnErr, length, drop, slice_index, slice_set};
 ghost use Rattle.ct_base.specs.Causes.{HasCause};
-ghost use Rattle.ct_base.specs.Settled.{with_pairs, pairs_at, open_pairs, HasPages, IsShut, IsTarget, HaveTargets, IsRecord};
+ghost use Rattle.ct_base.specs.Settled.{with_pairs, pairs_at, open_pairs, HasFewPairs, HasPages, IsShut, IsTarget, HaveTargets, IsRecord};
 ghost use Rattle.ct_pm.specs.Device.{EachNow, LeavesOnly, MakesOnly, NothingPending, QuietOff, SameOff, WrittenBack, IsIn};
-ghost use Rattle.ct_record.specs.Record.{IsTouched, AreApplied, IsPlace, SettlesTo, StaysInRecord};
+ghost use Rattle.ct_record.specs.Record.{IsTouched, AreApplied, IsPlace, OpensOnly, SettlesTo, StaysInRecord};
 ghost use Rattle.ct_base.specs.Settled.{Named, Gives};
 
 use ct_pm::{Pm, PmFault};
@@ -116,6 +116,10 @@ pub fn apply_record<D: Pm>(dev: &mut D) -> Result<(), PmFault>
     ensures settled { OnOk result (NothingPending (D.told dev.new)) }
     ensures any_moment { LeavesOnly (D.told dev.old) (D.told dev.new) (SettlesTo (D.words dev.old)) }
     ensures reads { SettlesTo (D.words dev.old) (D.words dev.new) }
+    ensures lawful { LeavesOnly (D.told dev.old) (D.told dev.new) (HasFewPairs (slice_index (D.words dev.old) 512)) }
+    ensures reads_lawful { HasFewPairs (slice_index (D.words dev.old) 512) (D.words dev.new) }
+    ensures opens { LeavesOnly (D.told dev.old) (D.told dev.new) (OpensOnly (open_pairs (D.words dev.old))) }
+    ensures reads_opens { OpensOnly (open_pairs (D.words dev.old)) (D.words dev.new) }
     ensures made { MakesOnly (Gives (open_pairs (D.words dev.old))) (D.told dev.old) (D.told dev.new) }
     ensures err { OnErr result ((k : ℕ) × (D.words dev.new ≡ with_pairs (drop k (open_pairs (D.words dev.old))) (D.words dev.old))) }
     ensures cause { HasCause (D.faults dev.old) (D.faults dev.new) result }

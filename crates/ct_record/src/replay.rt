@@ -1,8 +1,8 @@
 ghost use Rattle.std.specs.Prelude.{◌≡◌, ◌≤◌, ◌⊎◌, ℕ, OnOk, OnErr, drop, slice_index};
 ghost use Rattle.ct_base.specs.Causes.{HasCause};
-ghost use Rattle.ct_base.specs.Settled.{HasPages, IsShut, IsRecord, settled, with_pairs, open_pairs};
+ghost use Rattle.ct_base.specs.Settled.{HasFewPairs, HasPages, IsShut, IsRecord, settled, with_pairs, open_pairs};
 ghost use Rattle.ct_pm.specs.Device.{LeavesOnly, MakesOnly, NothingPending, SameOff};
-ghost use Rattle.ct_record.specs.Record.{InRecord, SettlesTo, IsStaging};
+ghost use Rattle.ct_record.specs.Record.{InRecord, OpensOnly, SettlesTo, IsStaging};
 ghost use Rattle.ct_base.specs.Settled.{Gives};
 ghost use Rattle.ct_record.specs.Seen.{after_finish};
 
@@ -30,6 +30,15 @@ pub fn replay<D: Pm>(dev: D) -> Result<Idle<D>, Broken<D>>
     // A crash at any moment leaves what settles as the words at entry do, and so do the words as they read.
     ensures any_moment { LeavesOnly (D.told dev) (D.told (after_finish result)) (SettlesTo (D.words dev)) }
     ensures reads { SettlesTo (D.words dev) (D.words (after_finish result)) }
+
+    // The record is lawful in it, with no more pairs than the long gate counts at entry, and so it is in the words as they
+    // read.
+    ensures lawful { LeavesOnly (D.told dev) (D.told (after_finish result)) (HasFewPairs (slice_index (D.words dev) 512)) }
+    ensures reads_lawful { HasFewPairs (slice_index (D.words dev) 512) (D.words (after_finish result)) }
+
+    // No other pairs are ever open.
+    ensures opens { LeavesOnly (D.told dev) (D.told (after_finish result)) (OpensOnly (open_pairs (D.words dev))) }
+    ensures reads_opens { OpensOnly (open_pairs (D.words dev)) (D.words (after_finish result)) }
 
     // Off pages 1 to 32 each store gives a word the value that one of the pairs has for it.
     ensures made { MakesOnly (λ word value. InRecord word ⊎ Gives (open_pairs (D.words dev)) word value) (D.told dev) (D.told (after_finish result)) }

@@ -7,7 +7,7 @@ use Rattle.ct_pm.specs.Device.{SameOff, IsIn, IsValueOf, Puts}
 use Rattle.ct_base.specs.Settled.{Pair, with_pairs, open_pairs, cleared, settled, Named, IsShut}
 use Rattle.ct_record.specs.Record.{InRecord, SettlesTo, IsStaging}
 use Rattle.ct_image.proofs.Pairs.{length-with_pairs, with_pairs_alike, with_pairs_off}
-use Rattle.ct_record.proofs.Settles.{open_shut}
+use Rattle.ct_record.proofs.Settles.{cleared_in, length-settled, open_shut}
 
 pub staging_named : (word : ℕ) → IsStaging word → Named cleared word
 unfolding cleared
@@ -51,12 +51,16 @@ unfolding settled
 settled_staging words word is within =
     zero_named cleared (with_pairs (open_pairs words) words) word all_zero (omega (arith, length-with_pairs (open_pairs words) words)) (staging_named word is)
 
+-- no gate is one of them
+pub shut_staged : (words image : List ℕ) → IsShut words → SameOff (IsIn 16898 8) image words → IsShut image
+shut_staged words image shut same =
+    (same.others 512 (λ is. omega (arith, is.0)) ∙ shut.0, same.others 527 (λ is. omega (arith, is.0)) ∙ shut.1)
+
 -- they do not count
 pub settles_staged : (words image : List ℕ) → IsShut words → SameOff (IsIn 16898 8) image words → SettlesTo words image
 unfolding settled
 settles_staged words image shut same =
-    let same_word : (word : ℕ) → word < 16898 → slice_index image word ≡ slice_index words word = λ word low. same.others word (λ is. omega (arith, is.0)) in
-    let shut_image : IsShut image = (same_word 512 (omega arith) ∙ shut.0, same_word 527 (omega arith) ∙ shut.1) in
+    let shut_image : IsShut image = shut_staged words image shut same in
     let both : (word : ℕ) → slice_index (with_pairs cleared image) word ≡ slice_index (with_pairs cleared words) word =
     λ word. with_pairs_alike cleared image words word same.size (λ off. same.others word (λ is. off (staging_named word (is.0, omega (arith, is.1))))) in
     subst (λ (ps : List Pair). SameOff InRecord (with_pairs cleared (with_pairs ps image)) (with_pairs cleared (with_pairs (open_pairs words) words))) (sym (open_shut image shut_image))
@@ -71,42 +75,9 @@ is_in_staging word = elim (cases_lt word 16898) [
   | inr from ↦ elim (cases_lt word 16906) [ inl within ↦ inl (from, within) | inr past ↦ inr (λ is. omega (arith, is.1)) ]
 ]
 
--- what is cleared is a gate or a staging slot
-cleared_in : (word : ℕ) → Named cleared word → InRecord word ⊎ IsStaging word
-unfolding cleared
-cleared_in word named = elim named [
-  | inl e ↦ inl (omega arith, omega arith)
-  | inr n1 ↦ elim n1 [
-    | inl e ↦ inl (omega arith, omega arith)
-    | inr n2 ↦ elim n2 [
-      | inl e ↦ inr (omega arith, omega arith)
-      | inr n3 ↦ elim n3 [
-        | inl e ↦ inr (omega arith, omega arith)
-        | inr n4 ↦ elim n4 [
-          | inl e ↦ inr (omega arith, omega arith)
-          | inr n5 ↦ elim n5 [
-            | inl e ↦ inr (omega arith, omega arith)
-            | inr n6 ↦ elim n6 [
-              | inl e ↦ inr (omega arith, omega arith)
-              | inr n7 ↦ elim n7 [
-                | inl e ↦ inr (omega arith, omega arith)
-                | inr n8 ↦ elim n8 [ inl e ↦ inr (omega arith, omega arith) | inr n9 ↦ elim n9 [ inl e ↦ inr (omega arith, omega arith) | inr none ↦ absurd none ] ]
-              ]
-            ]
-          ]
-        ]
-      ]
-    ]
-  ]
-]
-
 settled_off : (words : List ℕ) (word : ℕ) → (InRecord word → ⊥) → (IsStaging word → ⊥) → slice_index (settled words) word ≡ slice_index (with_pairs (open_pairs words) words) word
 unfolding settled
 settled_off words word outside off = with_pairs_off cleared (with_pairs (open_pairs words) words) word (λ named. elim (cleared_in word named) [ inl inside ↦ outside inside | inr staging ↦ off staging ])
-
-length-settled : (words : List ℕ) → length (settled words) ≡ length words
-unfolding settled
-length-settled words = length-with_pairs cleared (with_pairs (open_pairs words) words) ∙ length-with_pairs (open_pairs words) words
 
 -- the words at the end of a settling
 pub settled_done : (words idle done : List ℕ) → 17408 ≤ length words → SameOff InRecord idle (with_pairs (open_pairs words) words) → ((word : ℕ) → IsStaging word → slice_index done word ≡ 0)

@@ -1,8 +1,8 @@
 ghost use Rattle.std.specs.Prelude.{◌≡◌, ◌⊎◌, ℕ, OnOk, slice_index};
 ghost use Rattle.ct_base.specs.Causes.{HasCause};
-ghost use Rattle.ct_base.specs.Settled.{HasPages, IsShut, IsRecord, settled};
+ghost use Rattle.ct_base.specs.Settled.{HasFewPairs, HasPages, IsShut, IsRecord, open_pairs, settled};
 ghost use Rattle.ct_pm.specs.Device.{LeavesOnly, MakesOnly, NothingPending, SameOff, IsIn};
-ghost use Rattle.ct_record.specs.Record.{InRecord, IsStaging, SettlesTo};
+ghost use Rattle.ct_record.specs.Record.{InRecord, IsStaging, OpensOnly, SettlesTo};
 ghost use Rattle.ct_recover.specs.Settling.{after_settle, Settling};
 
 use ct_pm::{Pm, PmFault, lay};
@@ -19,6 +19,7 @@ fn clear_staging<D: Pm>(dev: &mut D) -> Result<(), PmFault>
     ensures same { SameOff (IsIn 16898 8) (D.words dev.new) (D.words dev.old) }
     ensures settled { OnOk result (NothingPending (D.told dev.new)) }
     ensures any_moment { LeavesOnly (D.told dev.old) (D.told dev.new) (SettlesTo (D.words dev.old)) }
+    ensures each_shut { LeavesOnly (D.told dev.old) (D.told dev.new) IsShut }
     ensures made { MakesOnly (λ word value. IsStaging word × (value ≡ 0)) (D.told dev.old) (D.told dev.new) }
     ensures cause { HasCause (D.faults dev.old) (D.faults dev.new) result }
 {
@@ -44,6 +45,15 @@ pub fn settle<D: Pm>(dev: D) -> Result<D, Broken<D>>
     // A crash at any moment leaves what settles as the words at entry do, and so do the words as they read.
     ensures any_moment { LeavesOnly (D.told dev) (D.told (after_settle result)) (SettlesTo (D.words dev)) }
     ensures reads { SettlesTo (D.words dev) (D.words (after_settle result)) }
+
+    // The record is lawful in it, with no more pairs than the long gate counts at entry, and so it is in the words as they
+    // read.
+    ensures lawful { LeavesOnly (D.told dev) (D.told (after_settle result)) (HasFewPairs (slice_index (D.words dev) 512)) }
+    ensures reads_lawful { HasFewPairs (slice_index (D.words dev) 512) (D.words (after_settle result)) }
+
+    // No other pairs are ever open.
+    ensures opens { LeavesOnly (D.told dev) (D.told (after_settle result)) (OpensOnly (open_pairs (D.words dev))) }
+    ensures reads_opens { OpensOnly (open_pairs (D.words dev)) (D.words (after_settle result)) }
 
     ensures made { MakesOnly (Settling (D.words dev)) (D.told dev) (D.told (after_settle result)) }
     ensures cause { HasCause (D.faults dev) (D.faults (after_settle result)) result }

@@ -4,20 +4,24 @@ use Rattle.std.specs.Prelude.{Option}
 use Rattle.std.proofs.lemmas.List.{append-nil}
 use Rattle.ct_base.specs.Exchange.{Exchanged}
 use Rattle.ct_base.specs.Pieces.{pieces, pieces_from, height_at}
-use Rattle.ct_base.specs.Settled.{Pair, with_pairs}
+use Rattle.ct_base.specs.Settled.{HasFewPairs, Pair, with_pairs}
 use Rattle.ct_pieces.proofs.Steps.{pieces_from-step}
 use Rattle.ct_pm.specs.Images.{History}
 use Rattle.ct_pm.specs.Device.{LeavesOnly, MakesOnly, SameOff}
 use Rattle.ct_pm.proofs.Made.{makes_then, makes_weaker}
-use Rattle.ct_pm.proofs.Told.{weaker}
+use Rattle.ct_pm.proofs.Told.{and_then, weaker}
 use Rattle.ct_record.specs.declared.draft.Draft.{Draft}
-use Rattle.ct_record.specs.Record.{AreApart, InRecord, IsDrafted, SettlesToEither, StaysInRecord}
-use Rattle.ct_record.specs.Seen.{Drafts, draft_dev, drafted, pairs_of, told_under, words_under}
+use Rattle.ct_record.specs.Record.{AreApart, InRecord, IsDrafted, OpensOnly, SettlesToEither, StaysInRecord}
+use Rattle.ct_record.specs.Seen.{Drafts, count_of, draft_dev, drafted, pairs_of, told_under, words_under}
+use Rattle.ct_record.proofs.Chain.{drafts_lawful}
+use Rattle.ct_record.proofs.Lawful.{few_more}
+use Rattle.ct_record.proofs.Opens.{opens_as, shut_opens}
 use Rattle.ct_record.proofs.Settles.{same_then, settles_shut}
+use Rattle.ct_record.proofs.Under.{under_beside}
 use Rattle.ct_record.proofs.Whole.{all_settles, apart_at, either_then, words_then}
 use Rattle.ct_swap.specs.Committed.{StaysOrGives}
 use Rattle.ct_swap.specs.Swap.{swap_pairs}
-use Rattle.ct_swap.proofs.Pairing.{exchanged_beside, under_beside}
+use Rattle.ct_swap.proofs.Pairing.{exchanged_beside}
 
 -- the pairs qs were drafted
 pub record Exchanging (was words : List ℕ) (start mid : Option History) (pairs qs : List Pair) : Type 0 where
@@ -36,6 +40,9 @@ module _ {was words : List ℕ} {start mid : Option History} {pairs qs : List Pa
     | inr all ↦ inr (same_then all (all_settles x.begun qs x.apart))
   ])
 
+  pub then_opens : {told : Option History} → LeavesOnly mid told (OpensOnly qs) → LeavesOnly start told (OpensOnly pairs)
+  then_opens more = and_then (weaker (OpensOnly pairs) (λ image shut. shut_opens pairs image shut) x.begun.each_shut) (weaker (OpensOnly pairs) (λ image opens. opens_as image x.is opens) more)
+
   pub then_words : {done : List ℕ} → SameOff InRecord done (with_pairs qs words) → SameOff InRecord done (with_pairs pairs was)
   then_words {done} same = subst (λ (ps : List Pair). SameOff InRecord done (with_pairs ps was)) x.is (words_then x.begun qs done same)
 
@@ -48,11 +55,25 @@ pub exchanging : {D : Type 0} {bound : _} (dev : D) (first last : Draft D bound)
     → Exchanging (bound.words dev) (words_under last) (bound.told dev) (told_under last) (swap_pairs (bound.words dev) a b ps) (pairs_of last)
 exchanging {bound = bound} dev first last a b ps is none drafts added =
     subst (λ d. Exchanging (bound.words d) (words_under last) (bound.told d) (told_under last) (swap_pairs (bound.words d) a b ps) (pairs_of last)) is (record {
-      begun = record { was_shut = first.shut; shut = last.shut; same = drafts.same; moments = drafts.moments };
+      begun = record { was_shut = first.shut; shut = last.shut; same = drafts.same; moments = drafts.moments; each_shut = drafts.shut };
       apart = apart_at last.count (words_under last) last.targets;
       is = added ∙ ap (λ (l : List Pair). swap_pairs (words_under first) a b ps ++ l) none ∙ append-nil (swap_pairs (words_under first) a b ps);
       made = drafts.made;
     })
+
+-- the record is lawful while the pairs are drafted, and after
+pub drafted_lawful : {D : Type 0} {bound : _} (dev : D) (first last : Draft D bound) (most : ℕ) → draft_dev first ≡ dev → Drafts first last → LeavesOnly (bound.told dev) (told_under last) (HasFewPairs most)
+drafted_lawful {bound = bound} dev first last most is drafts = subst (λ d. LeavesOnly (bound.told d) (told_under last) (HasFewPairs most)) is (drafts_lawful most drafts)
+
+pub whole_lawful : {D : Type 0} {bound : _} (dev : D) (first last : Draft D bound) (most : ℕ) {told : Option History} → draft_dev first ≡ dev → Drafts first last → count_of last ≤ most
+    → LeavesOnly (told_under last) told (HasFewPairs (count_of last)) → LeavesOnly (bound.told dev) told (HasFewPairs most)
+whole_lawful dev first last most is drafts le more = and_then (drafted_lawful dev first last most is drafts) (weaker (HasFewPairs most) (λ image few. few_more image le few) more)
+
+-- no pair is open while they are drafted
+pub dropped_opens : {D : Type 0} {bound : _} (dev end : D) (first last : Draft D bound) (pairs : List Pair) → draft_dev first ≡ dev → end ≡ draft_dev last → Drafts first last → LeavesOnly (bound.told dev) (bound.told end) (OpensOnly pairs)
+dropped_opens {bound = bound} dev end first last pairs is ends drafts =
+    subst (λ d. LeavesOnly (bound.told d) (bound.told end) (OpensOnly pairs)) is
+    (subst (λ d. LeavesOnly (told_under first) (bound.told d) (OpensOnly pairs)) (sym ends) (weaker (OpensOnly pairs) (λ image shut. shut_opens pairs image shut) drafts.shut))
 
 -- the tables at the end
 pub exchanged_end : {D : Type 0} {bound : _} (dev : D) (first last : Draft D bound) (done : List ℕ) (a b n : ℕ) → draft_dev first ≡ dev → pairs_of first ≡ [] → Exchanged (drafted first) (drafted last) a b n

@@ -17,10 +17,6 @@ use Rattle.ct_record.specs.Record.{InRecord}
 use Rattle.ct_swap.specs.Swap.{LeaveTables, first_pair, second_pair, swap_pairs, AreDistinct}
 use Rattle.ct_swap.proofs.Goes.{Goes, Head, head_of, head_is, goes_start, goes_step, goes_end, digits, aligned, entry_apart}
 
-pub under_beside : (old new : List ℕ) → SameOff InRecord new old → Beside old new
-under_beside old new same =
-    record { size = same.size; front = λ w lt. same.others w (λ is. omega (arith, is.0)); back = λ w le. same.others w (λ is. omega (arith, is.1)) }
-
 -- ---- pairs that leave the tables
 
 module _ (img : List ℕ) (pairs : List Pair) (tables : AreTables img) (leave : LeaveTables img pairs) (apart : (w : ℕ) → Named pairs w → 16896 ≤ w) where
@@ -144,7 +140,10 @@ exchanged_beside {old} {mid} {new} e s = record {
   pages = λ p. beside_cells s 4 p ∙ e.pages p;
   cells = λ d p le out. beside_cells s d (p / 512 ^ (4 - d)) ∙ e.cells d p le out;
   contents = λ p o lt ne. s.back _ (omega (arith, page_at-low old 4 p ne)) ∙ e.contents p o lt ne;
+  within = λ k c le first second whole. beside_cells s (4 - k) c ∙ e.within k c le first second whole;
+  above = λ k c le less. beside_cells s (4 - k) c ∙ e.above k c le less;
   fresh = λ q f d x le is. e.fresh q f d x le (sym (beside_cells s d x) ∙ is);
+  reached = λ q f. e.reached q (λ d x le is. f d x le (beside_cells s d x ∙ is));
   count = beside_count s ∙ e.count;
   size = s.size ∙ e.size;
 }

@@ -3,10 +3,10 @@ ghost use Rattle.std.specs.Prelude.{◌≡◌, ◌≢◌, ℕ, ◌+◌, ◌*◌,
 ghost use Rattle.ct_base.specs.Causes.{HasCause};
 ghost use Rattle.ct_base.specs.Exchange.{Apart, Exchanged, HasTables};
 ghost use Rattle.ct_base.specs.Pieces.{pieces};
-ghost use Rattle.ct_base.specs.Settled.{HasPages, IsShut, with_pairs};
+ghost use Rattle.ct_base.specs.Settled.{HasFewPairs, HasPages, IsShut, with_pairs};
 ghost use Rattle.ct_base.specs.Walk.{AreTables};
 ghost use Rattle.ct_pm.specs.Device.{LeavesOnly, MakesOnly, NothingPending, SameOff};
-ghost use Rattle.ct_record.specs.Record.{InRecord, SettlesToEither};
+ghost use Rattle.ct_record.specs.Record.{InRecord, OpensOnly, SettlesToEither};
 ghost use Rattle.ct_swap.specs.Committed.{StaysOrGives, after_swap};
 ghost use Rattle.ct_swap.specs.Swap.{swap_pairs};
 
@@ -40,6 +40,15 @@ pub fn pswap_now<D: Pm>(dev: D, a: u64, b: u64, n: u64) -> Result<D, Broken<D>>
     // A crash at any moment leaves none of the exchange or all of it, and so do the words as they read.
     ensures any_moment { LeavesOnly (D.told dev) (D.told (after_swap result)) (SettlesToEither (swap_pairs (D.words dev) a b (pieces a b n)) (D.words dev)) }
     ensures reads { SettlesToEither (swap_pairs (D.words dev) a b (pieces a b n)) (D.words dev) (D.words (after_swap result)) }
+
+    // The record is lawful in it, with no more pairs than two a piece, and so it is in the words as they read.
+    ensures lawful { LeavesOnly (D.told dev) (D.told (after_swap result)) (HasFewPairs (2 * length (pieces a b n))) }
+    ensures reads_lawful { HasFewPairs (2 * length (pieces a b n)) (D.words (after_swap result)) }
+
+    // No other pairs are ever open.
+    ensures opens { LeavesOnly (D.told dev) (D.told (after_swap result)) (OpensOnly (swap_pairs (D.words dev) a b (pieces a b n))) }
+    ensures reads_opens { OpensOnly (swap_pairs (D.words dev) a b (pieces a b n)) (D.words (after_swap result)) }
+
     ensures made { MakesOnly (StaysOrGives (swap_pairs (D.words dev) a b (pieces a b n))) (D.told dev) (D.told (after_swap result)) }
     ensures cause { HasCause (D.faults dev) (D.faults (after_swap result)) result }
 {

@@ -1,10 +1,11 @@
-use Rattle.std.proofs.Common.{◌≡◌, ◌⊎◌, ◌∙◌, ◌/◌, ℕ, List, set, subst, arith}
+use Rattle.std.proofs.Common.{◌≡◌, ◌⊎◌, ◌∙◌, ◌/◌, ℕ, List, set, subst, sym, arith}
 use Rattle.ct_pm.proofs.Made.{makes_step, makes_then, makes_weaker}
 use Rattle.ct_pm.proofs.Told.{fenced, and_then, weaker}
 use Rattle.ct_pm.proofs.OneWord.{Replays}
-use Rattle.ct_base.specs.Settled.{pairs_at}
+use Rattle.ct_base.specs.Settled.{HasFewPairs, pairs_at}
 use Rattle.ct_record.specs.Record.{IsNoneOrAll, StaysInRecord}
-use Rattle.ct_record.proofs.Arming.{none_yet, fenced_pairs, gate_moves}
+use Rattle.ct_record.proofs.Arming.{none_yet, none_lawful, fenced_pairs, gate_moves, gate_lawful}
+use Rattle.ct_record.proofs.Lawful.{shut_few}
 use Rattle.ct_record.proofs.Moments.{either_commit}
 use Rattle.ct_record.proofs.gate.open_gate.Goals as goal
 
@@ -46,4 +47,35 @@ returns-clause-reads g c =
     let new = g.D.Pm.words c.commit.new.dev in
     let same : fenced ≡ was = c.fence.ensures.words ∙ c.flush_lines.ensures.words in
     gate_moves c.requires.full new (subst (λ (l : List ℕ). (new ≡ l) ⊎ (new ≡ set l 512 c.args.count)) same
+    (either_commit c.commit.result fenced new 512 c.args.count c.commit.ensures.words c.commit.ensures.err))
+
+pub returns-in_err-flush_lines-clause-lawful : goal.returns-in_err-flush_lines-clause-lawful
+returns-in_err-flush_lines-clause-lawful g c = none_lawful c.requires.full c.requires.images c.flush_lines.ensures.quiet
+
+pub returns-in_err-fence-clause-lawful : goal.returns-in_err-fence-clause-lawful
+returns-in_err-fence-clause-lawful g c = fenced (none_lawful c.requires.full c.requires.images c.flush_lines.ensures.quiet) c.fence.ensures.step
+
+pub returns-clause-lawful : goal.returns-clause-lawful
+returns-clause-lawful g c =
+    let was = g.D.Pm.words c.args.dev.now in
+    let same : g.D.Pm.words c.fence.new.self ≡ was = c.fence.ensures.words ∙ c.flush_lines.ensures.words in
+    and_then (fenced (none_lawful c.requires.full c.requires.images c.flush_lines.ensures.quiet) c.fence.ensures.step)
+    (weaker (HasFewPairs c.args.count)
+    (λ image is. gate_lawful c.requires.full image (subst (λ (l : List ℕ). (image ≡ l) ⊎ (image ≡ set l 512 c.args.count)) same is)) c.commit.ensures.any_moment)
+
+pub returns-in_err-flush_lines-clause-reads_lawful : goal.returns-in_err-flush_lines-clause-reads_lawful
+returns-in_err-flush_lines-clause-reads_lawful g c =
+    subst (HasFewPairs c.args.count) (sym c.flush_lines.ensures.words) (shut_few c.args.count (g.D.Pm.words c.args.dev.now) c.requires.full.shut)
+
+pub returns-in_err-fence-clause-reads_lawful : goal.returns-in_err-fence-clause-reads_lawful
+returns-in_err-fence-clause-reads_lawful g c =
+    subst (HasFewPairs c.args.count) (sym (c.fence.ensures.words ∙ c.flush_lines.ensures.words)) (shut_few c.args.count (g.D.Pm.words c.args.dev.now) c.requires.full.shut)
+
+pub returns-clause-reads_lawful : goal.returns-clause-reads_lawful
+returns-clause-reads_lawful g c =
+    let was = g.D.Pm.words c.args.dev.now in
+    let fenced = g.D.Pm.words c.fence.new.self in
+    let new = g.D.Pm.words c.commit.new.dev in
+    let same : fenced ≡ was = c.fence.ensures.words ∙ c.flush_lines.ensures.words in
+    gate_lawful c.requires.full new (subst (λ (l : List ℕ). (new ≡ l) ⊎ (new ≡ set l 512 c.args.count)) same
     (either_commit c.commit.result fenced new 512 c.args.count c.commit.ensures.words c.commit.ensures.err))

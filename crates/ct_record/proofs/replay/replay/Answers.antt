@@ -1,13 +1,15 @@
-use Rattle.std.proofs.Common.{◌≡◌, ◌⊎◌, inl, inr, List, ℕ, sym, subst, ◌∙◌}
+use Rattle.std.proofs.Common.{◌≡◌, ◌⊎◌, inl, inr, refl, List, ℕ, ap, sym, subst, ◌∙◌}
 use Rattle.std.specs.Prelude.{slice_index}
 use Rattle.ct_pm.specs.Device.{LeavesOnly, MakesOnly, SameOff}
 use Rattle.ct_pm.proofs.Made.{makes_then, makes_weaker}
 use Rattle.ct_pm.proofs.Told.{started, and_then, weaker}
-use Rattle.ct_base.specs.Settled.{settled, with_pairs, open_pairs}
-use Rattle.ct_record.specs.Record.{InRecord, SettlesTo}
+use Rattle.ct_base.specs.Settled.{HasFewPairs, settled, with_pairs, open_pairs}
+use Rattle.ct_record.specs.Record.{InRecord, OpensOnly, SettlesTo}
 use Rattle.ct_base.specs.Settled.{Gives}
+use Rattle.ct_record.proofs.Lawful.{few_here, few_more}
+use Rattle.ct_record.proofs.Opens.{opens_as}
 use Rattle.ct_record.proofs.Settles.{same_refl, same_then, as_settled, as_settled_shut}
-use Rattle.ct_record.proofs.Applying.{applied_same}
+use Rattle.ct_record.proofs.Applying.{applied_pairs, applied_same}
 use Rattle.ct_record.proofs.Moments.{each_settled}
 use Rattle.ct_record.proofs.Drafts.{ok_of}
 use Rattle.ct_record.specs.Seen.{after_finish}
@@ -60,3 +62,53 @@ returns-in-Ok-clause-as_settled g c =
     let new = g.D.Pm.words (after_finish c.finish.result) in
     ok_of c.finish.result (as_settled was new (subst (SameOff InRecord new)
     (subst (λ d. g.D.Pm.words c.in-Ok.applied.dev ≡ with_pairs (open_pairs (g.D.Pm.words d)) (g.D.Pm.words d)) c.of-2.ensures c.in-Ok.ensures.words) c.finish.ensures.same))
+
+pub returns-then-load-eq0-2-clause-lawful : goal.returns-then-load-eq0-2-clause-lawful
+returns-then-load-eq0-2-clause-lawful g c =
+    let was = g.D.Pm.words c.args.dev in
+    let told = g.D.Pm.told c.args.dev in
+    let few = HasFewPairs (slice_index was 512) in
+    subst (λ d. LeavesOnly told (g.D.Pm.told d) few) (sym c.of.ensures) (started told few (each_settled told was few (g.met.D.Pm.replays c.args.dev) c.requires.settled (few_here was c.requires.record)))
+
+pub returns-then-load-eq0-2-clause-reads_lawful : goal.returns-then-load-eq0-2-clause-reads_lawful
+returns-then-load-eq0-2-clause-reads_lawful g c =
+    let was = g.D.Pm.words c.args.dev in subst (λ d. HasFewPairs (slice_index was 512) (g.D.Pm.words d)) (sym c.of.ensures) (few_here was c.requires.record)
+
+before_lawful : (g : _) (c : goal.After-finish g) → LeavesOnly (g.D.Pm.told c.args.dev) (g.D.Pm.told c.in-Ok.applied.dev) (HasFewPairs (slice_index (g.D.Pm.words c.args.dev) 512))
+before_lawful g c = subst (λ d. LeavesOnly (g.D.Pm.told d) (g.D.Pm.told c.in-Ok.applied.dev) (HasFewPairs (slice_index (g.D.Pm.words d) 512))) c.of-2.ensures c.in-Ok.ensures.lawful
+
+before_few : (g : _) (c : goal.After-finish g) → HasFewPairs (slice_index (g.D.Pm.words c.args.dev) 512) (g.D.Pm.words c.in-Ok.applied.dev)
+before_few g c = subst (λ d. HasFewPairs (slice_index (g.D.Pm.words d) 512) (g.D.Pm.words c.in-Ok.applied.dev)) c.of-2.ensures c.in-Ok.ensures.reads_lawful
+
+pub returns-in-Ok-clause-lawful : goal.returns-in-Ok-clause-lawful
+returns-in-Ok-clause-lawful g c =
+    and_then (before_lawful g c) (weaker (HasFewPairs (slice_index (g.D.Pm.words c.args.dev) 512)) (λ image few. few_more image (before_few g c).few few) c.finish.ensures.lawful)
+
+pub returns-in-Ok-clause-reads_lawful : goal.returns-in-Ok-clause-reads_lawful
+returns-in-Ok-clause-reads_lawful g c = few_more (g.D.Pm.words (after_finish c.finish.result)) (before_few g c).few c.finish.ensures.reads_lawful
+
+pub returns-then-load-eq0-2-clause-opens : goal.returns-then-load-eq0-2-clause-opens
+returns-then-load-eq0-2-clause-opens g c =
+    let was = g.D.Pm.words c.args.dev in
+    let told = g.D.Pm.told c.args.dev in
+    let opens = OpensOnly (open_pairs was) in
+    subst (λ d. LeavesOnly told (g.D.Pm.told d) opens) (sym c.of.ensures) (started told opens (each_settled told was opens (g.met.D.Pm.replays c.args.dev) c.requires.settled (inr refl)))
+
+pub returns-then-load-eq0-2-clause-reads_opens : goal.returns-then-load-eq0-2-clause-reads_opens
+returns-then-load-eq0-2-clause-reads_opens g c =
+    let was = g.D.Pm.words c.args.dev in subst (λ d. OpensOnly (open_pairs was) (g.D.Pm.words d)) (sym c.of.ensures) (inr refl)
+
+before_opens : (g : _) (c : goal.After-finish g) → LeavesOnly (g.D.Pm.told c.args.dev) (g.D.Pm.told c.in-Ok.applied.dev) (OpensOnly (open_pairs (g.D.Pm.words c.args.dev)))
+before_opens g c = subst (λ d. LeavesOnly (g.D.Pm.told d) (g.D.Pm.told c.in-Ok.applied.dev) (OpensOnly (open_pairs (g.D.Pm.words d)))) c.of-2.ensures c.in-Ok.ensures.opens
+
+-- the open pairs are those at entry still
+still_open : (g : _) (c : goal.After-finish g) → open_pairs (g.D.Pm.words c.in-Ok.applied.dev) ≡ open_pairs (g.D.Pm.words c.args.dev)
+still_open g c =
+    ap open_pairs (subst (λ d. g.D.Pm.words c.in-Ok.applied.dev ≡ with_pairs (open_pairs (g.D.Pm.words d)) (g.D.Pm.words d)) c.of-2.ensures c.in-Ok.ensures.words) ∙ applied_pairs c.requires.record c.requires.pages
+
+pub returns-in-Ok-clause-opens : goal.returns-in-Ok-clause-opens
+returns-in-Ok-clause-opens g c =
+    and_then (before_opens g c) (weaker (OpensOnly (open_pairs (g.D.Pm.words c.args.dev))) (λ image opens. opens_as image (still_open g c) opens) c.finish.ensures.opens)
+
+pub returns-in-Ok-clause-reads_opens : goal.returns-in-Ok-clause-reads_opens
+returns-in-Ok-clause-reads_opens g c = opens_as (g.D.Pm.words (after_finish c.finish.result)) (still_open g c) c.finish.ensures.reads_opens

@@ -1,12 +1,15 @@
 use Rattle.std.proofs.Common.{◌≡◌, ◌⊎◌, ℕ, List, inl, inr, subst, arith}
-use Rattle.ct_base.specs.Settled.{Gives, open_pairs}
+use Rattle.std.specs.Prelude.{slice_index}
+use Rattle.ct_base.specs.Settled.{Gives, HasFewPairs, IsShut, open_pairs}
 use Rattle.ct_pm.specs.Device.{LeavesOnly, MakesOnly, SameOff, IsIn}
 use Rattle.ct_pm.proofs.Made.{makes_then, makes_weaker}
 use Rattle.ct_pm.proofs.Told.{and_then, weaker}
-use Rattle.ct_record.specs.Record.{SettlesTo, InRecord, IsStaging}
+use Rattle.ct_record.specs.Record.{SettlesTo, InRecord, IsStaging, OpensOnly}
+use Rattle.ct_record.proofs.Lawful.{shut_few}
+use Rattle.ct_record.proofs.Opens.{shut_opens}
 use Rattle.ct_record.proofs.Settles.{same_then}
 use Rattle.ct_recover.specs.Settling.{Settling}
-use Rattle.ct_recover.proofs.Staging.{settled_done, settles_staged}
+use Rattle.ct_recover.proofs.Staging.{settled_done, settles_staged, shut_staged}
 use Rattle.ct_recover.proofs.settle.settle.Goals as goal
 use Rattle.ct_recover.proofs.settle.settle.Goals.{After-clear_staging}
 
@@ -25,6 +28,27 @@ moments g c =
     and_then c.in-Ok.ensures.any_moment
     (weaker (SettlesTo words) (λ image settles. same_then settles c.in-Ok.ensures.reads)
     (subst (λ d. LeavesOnly (g.D.Pm.told d) (g.D.Pm.told c.clear_staging.new.dev) (SettlesTo (g.D.Pm.words d))) c.into_dev-dev.ensures.dev c.clear_staging.ensures.any_moment))
+
+-- both gates are closed while the slots are cleared
+each_shut : (g : _) (c : After-clear_staging g) → LeavesOnly (g.D.Pm.told c.in-Ok.idle.dev) (g.D.Pm.told c.clear_staging.new.dev) IsShut
+each_shut g c = subst (λ d. LeavesOnly (g.D.Pm.told d) (g.D.Pm.told c.clear_staging.new.dev) IsShut) c.into_dev-dev.ensures.dev c.clear_staging.ensures.each_shut
+
+now_shut : (g : _) (c : After-clear_staging g) → IsShut (g.D.Pm.words c.clear_staging.new.dev)
+now_shut g c = shut_staged (g.D.Pm.words c.in-Ok.idle.dev) (g.D.Pm.words c.clear_staging.new.dev) c.in-Ok.idle.shut (same g c)
+
+lawful : (g : _) (c : After-clear_staging g) → LeavesOnly (g.D.Pm.told c.args.dev) (g.D.Pm.told c.clear_staging.new.dev) (HasFewPairs (slice_index (g.D.Pm.words c.args.dev) 512))
+lawful g c =
+    let most = slice_index (g.D.Pm.words c.args.dev) 512 in and_then c.in-Ok.ensures.lawful (weaker (HasFewPairs most) (λ image shut. shut_few most image shut) (each_shut g c))
+
+reads_lawful : (g : _) (c : After-clear_staging g) → HasFewPairs (slice_index (g.D.Pm.words c.args.dev) 512) (g.D.Pm.words c.clear_staging.new.dev)
+reads_lawful g c = shut_few (slice_index (g.D.Pm.words c.args.dev) 512) (g.D.Pm.words c.clear_staging.new.dev) (now_shut g c)
+
+opens : (g : _) (c : After-clear_staging g) → LeavesOnly (g.D.Pm.told c.args.dev) (g.D.Pm.told c.clear_staging.new.dev) (OpensOnly (open_pairs (g.D.Pm.words c.args.dev)))
+opens g c =
+    let pairs = open_pairs (g.D.Pm.words c.args.dev) in and_then c.in-Ok.ensures.opens (weaker (OpensOnly pairs) (λ image shut. shut_opens pairs image shut) (each_shut g c))
+
+reads_opens : (g : _) (c : After-clear_staging g) → OpensOnly (open_pairs (g.D.Pm.words c.args.dev)) (g.D.Pm.words c.clear_staging.new.dev)
+reads_opens g c = shut_opens (open_pairs (g.D.Pm.words c.args.dev)) (g.D.Pm.words c.clear_staging.new.dev) (now_shut g c)
 
 replayed : (words : List ℕ) (word value : ℕ) → InRecord word ⊎ Gives (open_pairs words) word value → Settling words word value
 replayed words word value (inl inside) = inl inside
@@ -62,3 +86,27 @@ returns-in-Ok-clear_staging-clause-made g c = made g (goal.at.returns-in-Ok-clea
 
 pub returns-in-Err-clear_staging-clause-made : goal.returns-in-Err-clear_staging-clause-made
 returns-in-Err-clear_staging-clause-made g c = made g (goal.at.returns-in-Err-clear_staging-clause-made g c).After-clear_staging
+
+pub returns-in-Ok-clear_staging-clause-lawful : goal.returns-in-Ok-clear_staging-clause-lawful
+returns-in-Ok-clear_staging-clause-lawful g c = lawful g (goal.at.returns-in-Ok-clear_staging-clause-lawful g c).After-clear_staging
+
+pub returns-in-Err-clear_staging-clause-lawful : goal.returns-in-Err-clear_staging-clause-lawful
+returns-in-Err-clear_staging-clause-lawful g c = lawful g (goal.at.returns-in-Err-clear_staging-clause-lawful g c).After-clear_staging
+
+pub returns-in-Ok-clear_staging-clause-reads_lawful : goal.returns-in-Ok-clear_staging-clause-reads_lawful
+returns-in-Ok-clear_staging-clause-reads_lawful g c = reads_lawful g (goal.at.returns-in-Ok-clear_staging-clause-reads_lawful g c).After-clear_staging
+
+pub returns-in-Err-clear_staging-clause-reads_lawful : goal.returns-in-Err-clear_staging-clause-reads_lawful
+returns-in-Err-clear_staging-clause-reads_lawful g c = reads_lawful g (goal.at.returns-in-Err-clear_staging-clause-reads_lawful g c).After-clear_staging
+
+pub returns-in-Ok-clear_staging-clause-opens : goal.returns-in-Ok-clear_staging-clause-opens
+returns-in-Ok-clear_staging-clause-opens g c = opens g (goal.at.returns-in-Ok-clear_staging-clause-opens g c).After-clear_staging
+
+pub returns-in-Err-clear_staging-clause-opens : goal.returns-in-Err-clear_staging-clause-opens
+returns-in-Err-clear_staging-clause-opens g c = opens g (goal.at.returns-in-Err-clear_staging-clause-opens g c).After-clear_staging
+
+pub returns-in-Ok-clear_staging-clause-reads_opens : goal.returns-in-Ok-clear_staging-clause-reads_opens
+returns-in-Ok-clear_staging-clause-reads_opens g c = reads_opens g (goal.at.returns-in-Ok-clear_staging-clause-reads_opens g c).After-clear_staging
+
+pub returns-in-Err-clear_staging-clause-reads_opens : goal.returns-in-Err-clear_staging-clause-reads_opens
+returns-in-Err-clear_staging-clause-reads_opens g c = reads_opens g (goal.at.returns-in-Err-clear_staging-clause-reads_opens g c).After-clear_staging

@@ -4,8 +4,9 @@ use Rattle.ct_pieces.proofs.Steps.{width_pos}
 use Rattle.ct_image.proofs.Beside.{beside_cells, beside_tables}
 use Rattle.ct_record.specs.Seen.{count_of, pairs_of, words_under}
 use Rattle.ct_record.proofs.Chain.{drafts_here, drafts_then}
+use Rattle.ct_record.proofs.Under.{under_beside}
 use Rattle.ct_record.proofs.Whole.{apart_at}
-use Rattle.ct_swap.proofs.Pairing.{under_beside, swapping_start, swapping_head, swapping_step, swapping_end, pswap_exchanged, pswap_distinct}
+use Rattle.ct_swap.proofs.Pairing.{swapping_start, swapping_head, swapping_step, swapping_end, pswap_exchanged, pswap_distinct}
 use Rattle.ct_swap.proofs.swap.pswap.Goals as goal
 
 pub loop-piece-init : goal.loop-piece-init

@@ -1,5 +1,5 @@
 use Rattle.std.proofs.Common.{◌+◌, arith}
-use Rattle.ct_record.proofs.Drafts.{err_of, same_pairs, same_shut, same_pages, stores_pairs, stores_targets, touched_more, draft_settles, same_record, reads_settle}
+use Rattle.ct_record.proofs.Drafts.{err_of, same_pairs, same_shut, same_pages, stores_pairs, stores_targets, touched_more, draft_settles, draft_shut, same_record, reads_settle}
 use Rattle.ct_record.proofs.draft.Draft.add.Goals as goal
 
 pub returns-in_err-put_pair-clause-kept : goal.returns-in_err-put_pair-clause-kept
@@ -17,6 +17,7 @@ returns-in_err-put_pair-clause-drafts g c =
       made = put.made;
       moments = draft_settles draft.count was c.requires.room draft.shut draft.images put.quiet;
       reads = reads_settle draft.count was new c.requires.room draft.shut put.same;
+      shut = draft_shut draft.count was c.requires.room draft.shut draft.images put.quiet;
     }
 
 pub invariant_of-self-2 : goal.invariant_of-self-2
@@ -52,4 +53,5 @@ returns-clause-drafts g c =
       made = put.made;
       moments = draft_settles draft.count was c.requires.room draft.shut draft.images put.quiet;
       reads = reads_settle draft.count was new c.requires.room draft.shut put.same;
+      shut = draft_shut draft.count was c.requires.room draft.shut draft.images put.quiet;
     }

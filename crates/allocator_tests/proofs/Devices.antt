@@ -14,9 +14,10 @@ use Rattle.ct_base.specs.Settled.{Pair, with_pairs}
 use Rattle.ct_base.specs.View.{is_seen, view}
 use Rattle.ct_base.specs.Walk.{byte}
 use Rattle.ct_frames.specs.Agrees.{Agrees}
-use Rattle.ct_header.specs.Shown.{shown_word}
-use Rattle.ct_header.proofs.Placed.{record_beside, under_beside}
-use Rattle.ct_header.proofs.Shown.{byte-shown}
+use Rattle.ct_words.specs.Shown.{shown_word}
+use Rattle.ct_record.proofs.Under.{under_beside}
+use Rattle.ct_words.proofs.Placed.{record_beside}
+use Rattle.ct_words.proofs.Shown.{byte-shown}
 use Rattle.ct_image.proofs.Beside.{Beside, beside_count, beside_cells, beside_tables, beside_words}
 use Rattle.ct_pm.specs.Device.{SameOff}
 use Rattle.ct_record.specs.Record.{InRecord}
@@ -26,7 +27,8 @@ use Rattle.std.proofs.lemmas.List.{get_or_past, get_or-replicate, length-replica
 use Rattle.std.proofs.Common.{replicate}
 use Rattle.ct_base.specs.Ranges.{header_at, Headers}
 use Rattle.ct_base.specs.Settled.{IsShut}
-use Rattle.ct_header.proofs.Shown.{little-shown, headers_view}
+use Rattle.ct_words.proofs.Shown.{little-shown}
+use Rattle.ct_header.proofs.Shown.{headers_view, seen-low}
 use Rattle.ct_image.proofs.Write.{IsBlank, blank_tables, blank_words, at_here, at_others, cells, same_count, tables_new, page_low}
 use Rattle.ct_parts.proofs.Change.{eight-same}
 use Rattle.ct_parts.proofs.Local.{headers_empty}
@@ -205,7 +207,7 @@ view_zero old new e same v =
 
 pub shown_zero : (img : List ℕ) (a : ℕ) → ((v : ℕ) → view img v ≡ 0) → a % 8 ≡ 0 → a < 1099511627776 → shown_word img a ≡ 0
 shown_zero img a none aligned high =
-    sym (little-shown img a aligned high) ∙ little-eight (view img) a ∙ ap (from_le_bytes w64) (eight-same (λ t. view img (a + t)) (λ t. 0) (λ t lt. none (a + t)))
+    sym (little-shown img a aligned (seen-low a high)) ∙ little-eight (view img) a ∙ ap (from_le_bytes w64) (eight-same (λ t. view img (a + t)) (λ t. 0) (λ t lt. none (a + t)))
 
 -- Two words were stored in a page of the headers.
 pub record Marked (img one two : List ℕ) : Type 0 where

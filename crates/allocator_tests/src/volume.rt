@@ -7,7 +7,7 @@ ghost use Rattle.ct_base.specs.Walk.{AreTables, page_at};
 ghost use Rattle.ct_base.specs.Words.{Writes};
 ghost use Rattle.ct_frames.specs.Agrees.{Agrees};
 ghost use Rattle.ct_frames.specs.Free.{FreePages};
-ghost use Rattle.ct_header.specs.Drafted.{drafted};
+ghost use Rattle.ct_record.specs.Seen.{drafted};
 ghost use Rattle.ct_image.proofs.Beside.{Beside};
 ghost use Rattle.ct_level.specs.Any.{partition};
 ghost use Rattle.ct_pm.specs.Device.{NothingPending};

@@ -17,9 +17,10 @@ use Rattle.ct_parts.proofs.Lists.{number-nth, partition_part, join, leave, witho
 use Rattle.ct_pm.specs.Device.{SameOff}
 use Rattle.ct_record.specs.Record.{InRecord}
 use Rattle.ct_header.specs.Drafted.{AddsPairs, AreThere, IsInHeader, NamesHeader}
-use Rattle.ct_header.specs.Shown.{shown_word}
-use Rattle.ct_header.proofs.Placed.{under_beside}
-use Rattle.ct_header.proofs.Shown.{byte-shown, view_headers, headers_view}
+use Rattle.ct_words.specs.Shown.{shown_word}
+use Rattle.ct_record.proofs.Under.{under_beside}
+use Rattle.ct_words.proofs.Shown.{byte-shown}
+use Rattle.ct_header.proofs.Shown.{view_headers, headers_view}
 
 -- ---- addresses
 

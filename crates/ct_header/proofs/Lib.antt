@@ -1,3 +1,2 @@
 pub mod Chained
-pub mod Placed
 pub mod Shown

@@ -1,25 +1,12 @@
 -- Header words that are changed by the pairs of a draft.
-use Rattle.std.specs.Prelude.{◌≡◌, ◌≢◌, ℕ, ◌+◌, ◌/◌, ◌^◌, ◌<◌, ◌≤◌, ◌∷◌, ◌++◌, true, List, All, Contains}
+use Rattle.std.specs.Prelude.{◌≡◌, ◌≢◌, ℕ, ◌+◌, ◌/◌, ◌<◌, ◌≤◌, ◌∷◌, ◌++◌, true, List, All, Contains}
 use Rattle.ct_base.specs.Headers.{StandFor, is_one, without}
 use Rattle.ct_base.specs.Inode.{Partition, is_free, number_of}
 use Rattle.ct_base.specs.Published.{header_words}
-use Rattle.ct_base.specs.Settled.{Pair, with_pairs}
+use Rattle.ct_base.specs.Settled.{Pair}
 use Rattle.ct_base.specs.View.{view}
-use Rattle.ct_base.specs.Walk.{page_at, page_count, AreTables}
+use Rattle.ct_base.specs.Walk.{page_at}
 use Rattle.ct_base.specs.Words.{place_at}
-use Rattle.ct_record.specs.declared.draft.Draft.{Draft}
-use Rattle.ct_record.specs.Seen.{pairs_of, words_under}
-
--- the words under a draft, once its pairs are applied
-abbrev pub drafted : {D : Type 0} {bound : _} → Draft D bound → List ℕ
-drafted draft = with_pairs (pairs_of draft) (words_under draft)
-
--- The tables are well formed before the pairs and after them, and the pages of a root slot are the same.
-pub record MapsAlike (slot : ℕ) (img changed : List ℕ) : Type 0 where
-  pub tables : AreTables img
-  pub after : AreTables changed
-  pub count : page_count changed ≡ page_count img
-  pub same : (n : ℕ) → n / 2 ^ 27 ≡ slot → page_at changed 4 n ≡ page_at img 4 n
 
 -- the pages of the header words on the path of a partition are there
 abbrev pub AreThere : List ℕ → Partition → Type 0
@@ -43,10 +30,6 @@ pub record AddsPairs (Names : ℕ → Type 0) (old new : List Pair) : Type 0 whe
   pub added : List Pair
   pub goes_on : new ≡ added ++ old
   pub each : All (λ pair. Names pair.word) added
-
--- each page of an address and each table stays
-abbrev pub KeepsCells : List ℕ → List ℕ → Type 0
-KeepsCells old new = (d x : ℕ) → d ≤ 4 → page_at new d x ≡ page_at old d x
 
 -- each byte off the header words on the path of a partition stays
 abbrev pub KeepsOtherBytes : Partition → List ℕ → List ℕ → Type 0

@@ -1,3 +1,3 @@
+pub mod Bytes
 pub mod Drafted
 pub mod First
-pub mod Shown

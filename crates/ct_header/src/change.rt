@@ -2,8 +2,11 @@ ghost use Rattle.std.specs.Prelude.{◌≡◌, ◌+◌, ◌≤◌, OnOk};
 ghost use Rattle.ct_base.specs.Causes.{HasCause};
 ghost use Rattle.ct_level.specs.Any.{partition};
 ghost use Rattle.ct_record.specs.Seen.{Drafts, count_of, faults_under, pairs_of, words_under};
-ghost use Rattle.ct_header.specs.Drafted.{AddsPairs, AreThere, MapsAlike, NamesHeader, drafted};
-ghost use Rattle.ct_header.specs.Drafted.{JoinsLive, KeepsCells, KeepsOtherBytes, LeavesLive};
+ghost use Rattle.ct_header.specs.Drafted.{AddsPairs, AreThere, NamesHeader};
+ghost use Rattle.ct_words.specs.Drafted.{MapsAlike};
+ghost use Rattle.ct_record.specs.Seen.{drafted};
+ghost use Rattle.ct_header.specs.Drafted.{JoinsLive, KeepsOtherBytes, LeavesLive};
+ghost use Rattle.ct_words.specs.Drafted.{KeepsCells};
 
 use crate::path::set_path;
 use ct_level::AnyPart;

@@ -6,7 +6,7 @@ ghost use Rattle.ct_base.specs.View.{view};
 ghost use Rattle.ct_base.specs.Walk.{AreTables};
 ghost use Rattle.ct_level.specs.Any.{partition};
 ghost use Rattle.ct_header.specs.First.{IsFirstOf};
-ghost use Rattle.ct_header.specs.Shown.{shown_word};
+ghost use Rattle.ct_words.specs.Shown.{shown_word};
 
 use crate::scan::{first_child, first_slot};
 use ct_base::Vaddr;

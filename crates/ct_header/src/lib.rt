@@ -5,9 +5,7 @@
 
 mod address;
 mod change;
-mod draft;
 mod free;
-mod load;
 mod path;
 mod scan;
 mod sum;

@@ -6,15 +6,17 @@ ghost use Rattle.ct_base.specs.Inode.{nth};
 ghost use Rattle.ct_base.specs.Ranges.{IsPartition, Headers, Changes, header_at, summary};
 ghost use Rattle.ct_base.specs.Walk.{page_at};
 ghost use Rattle.ct_base.specs.Words.{place_at};
-ghost use Rattle.ct_record.specs.Seen.{Drafts, count_of, faults_under, pairs_of, words_under};
-ghost use Rattle.ct_header.specs.Drafted.{AddsPairs, AreThere, KeepsCells, KeepsOtherBytes, MapsAlike, NamesHeader, drafted};
-ghost use Rattle.ct_header.specs.Shown.{shown_word, with_byte};
+ghost use Rattle.ct_record.specs.Seen.{Drafts, count_of, drafted, faults_under, pairs_of, words_under};
+ghost use Rattle.ct_header.specs.Drafted.{AddsPairs, AreThere, KeepsOtherBytes, NamesHeader};
+ghost use Rattle.ct_words.specs.Drafted.{KeepsCells, MapsAlike};
+ghost use Rattle.ct_words.specs.Shown.{shown_word};
+ghost use Rattle.ct_header.specs.Bytes.{with_byte};
 
 use crate::address::header_address;
-use crate::draft::{store_at, value_at};
 use crate::sum::summary_of;
 use ct_pm::{Pm, PmFault};
 use ct_record::Draft;
+use ct_words::{store_at, value_at};
 
 /// Drafts the byte of a range of a level into the header word above it, and gives the byte that the range above then has
 /// where it is not live.

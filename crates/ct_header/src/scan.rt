@@ -1,11 +1,11 @@
 ghost use Rattle.std.specs.Prelude.{◌≡◌, ◌≢◌, ℕ, ◌+◌, ◌-◌, ◌*◌, ◌/◌, ◌%◌, ◌^◌, ◌<◌, ◌≤◌, IfSome, IfNone, true, false};
 ghost use Rattle.ct_base.specs.Walk.{AreTables};
-ghost use Rattle.ct_header.specs.Shown.{shown_word};
+ghost use Rattle.ct_words.specs.Shown.{shown_word};
 ghost use Rattle.ct_base.specs.Ranges.{byte_shown, fits};
 
 use crate::address::header_address;
-use crate::load::load_word;
 use ct_pm::Pm;
+use ct_words::load_word;
 
 /// The first child of a range, from a place on, whose byte tells of a free range of at least the level that is sought.
 /// The children are of `level`, and one word is read.

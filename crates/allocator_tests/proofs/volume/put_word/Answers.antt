@@ -1,6 +1,6 @@
 use Rattle.std.proofs.Common.{◌+◌, ◌*◌, ◌/◌, ◌%◌, ap, ◌∙◌, arith}
 use Rattle.ct_base.specs.Walk.{page_at}
-use Rattle.ct_header.proofs.Placed.{walk_some}
+use Rattle.ct_words.proofs.Placed.{walk_some}
 use Rattle.allocator_tests.proofs.Devices.{stored}
 use Rattle.allocator_tests.proofs.volume.put_word.Goals as goal
 

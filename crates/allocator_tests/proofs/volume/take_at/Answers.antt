@@ -6,7 +6,7 @@ use Rattle.ct_base.specs.View.{view}
 use Rattle.ct_base.specs.Walk.{word}
 use Rattle.ct_level.specs.Any.{partition}
 use Rattle.ct_record.specs.Seen.{words_under}
-use Rattle.ct_header.specs.Drafted.{drafted}
+use Rattle.ct_record.specs.Seen.{drafted}
 use Rattle.ct_parts.proofs.Lists.{is_one-first}
 use Rattle.allocator_tests.proofs.Devices.{Ends, ends_stand, ends_ready, stand_start}
 use Rattle.allocator_tests.proofs.volume.take_at.Given.{Over}

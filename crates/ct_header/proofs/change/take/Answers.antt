@@ -1,5 +1,5 @@
 use Rattle.ct_level.specs.Any.{partition}
-use Rattle.ct_header.specs.Drafted.{drafted}
+use Rattle.ct_record.specs.Seen.{drafted}
 use Rattle.ct_header.proofs.Chained.{take_stands}
 use Rattle.ct_header.proofs.change.take.Goals as goal
 

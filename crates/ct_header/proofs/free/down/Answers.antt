@@ -1,7 +1,7 @@
 use Rattle.std.proofs.Common.{◌+◌, arith}
 use Rattle.ct_parts.proofs.Descent.{down_range, down_step, down_some}
 use Rattle.ct_parts.proofs.Path.{children_there}
-use Rattle.ct_header.specs.Shown.{shown_word}
+use Rattle.ct_words.specs.Shown.{shown_word}
 use Rattle.ct_header.proofs.free.down.Goals as goal
 
 pub first_child-requires-clause-number : goal.first_child-requires-clause-number

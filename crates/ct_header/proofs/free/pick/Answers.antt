@@ -3,7 +3,7 @@ use Rattle.ct_base.specs.Headers.{is_one}
 use Rattle.ct_base.specs.Ranges.{IsDown}
 use Rattle.ct_parts.proofs.Descent.{down_start, down_none, down_end, down_range}
 use Rattle.ct_parts.proofs.Lists.{live_set, first_parts, no_parts}
-use Rattle.ct_header.specs.Shown.{shown_word}
+use Rattle.ct_words.specs.Shown.{shown_word}
 use Rattle.ct_header.proofs.Shown.{view_headers}
 use Rattle.ct_header.proofs.free.pick.Goals as goal
 

@@ -1,6 +1,6 @@
 use Rattle.std.proofs.Common.{◌-◌, ◌≤◌}
 use Rattle.ct_base.specs.Ranges.{IsDown}
-use Rattle.ct_header.specs.Shown.{shown_word}
+use Rattle.ct_words.specs.Shown.{shown_word}
 use Rattle.ct_header.proofs.free.pick.Given as goal
 
 abbrev pub invariant-loop-above : goal.invariant-loop-above

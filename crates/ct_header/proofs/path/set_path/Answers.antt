@@ -3,8 +3,9 @@ use Rattle.ct_base.specs.Inode.{nth}
 use Rattle.ct_parts.proofs.Path.{on_way_zero, on_way_more, on_way_end, on_way_number}
 use Rattle.ct_record.proofs.Chain.{drafts_here, drafts_then}
 use Rattle.ct_record.specs.Seen.{pairs_of, words_under}
-use Rattle.ct_header.specs.Drafted.{NamesHeader, drafted}
-use Rattle.ct_header.specs.Shown.{shown_word}
+use Rattle.ct_header.specs.Drafted.{NamesHeader}
+use Rattle.ct_record.specs.Seen.{drafted}
+use Rattle.ct_words.specs.Shown.{shown_word}
 use Rattle.ct_header.proofs.Chained.{adds_none, adds_same, adds_header, there_now, on_path_now, bytes_stay}
 use Rattle.ct_header.proofs.path.set_path.Goals as goal
 

@@ -3,8 +3,10 @@ use Rattle.ct_base.specs.Inode.{nth}
 use Rattle.ct_base.specs.Ranges.{OnWay}
 use Rattle.ct_base.specs.Walk.{page_at}
 use Rattle.ct_record.specs.Seen.{Drafts, count_of, faults_under, pairs_of, words_under}
-use Rattle.ct_header.specs.Drafted.{AddsPairs, MapsAlike, NamesHeader, drafted}
-use Rattle.ct_header.specs.Shown.{shown_word}
+use Rattle.ct_header.specs.Drafted.{AddsPairs, NamesHeader}
+use Rattle.ct_words.specs.Drafted.{MapsAlike}
+use Rattle.ct_record.specs.Seen.{drafted}
+use Rattle.ct_words.specs.Shown.{shown_word}
 use Rattle.ct_header.proofs.path.set_path.Given as goal
 
 abbrev pub invariant-loop-at : goal.invariant-loop-at

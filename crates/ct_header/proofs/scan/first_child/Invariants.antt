@@ -1,4 +1,4 @@
-use Rattle.ct_header.specs.Shown.{shown_word}
+use Rattle.ct_words.specs.Shown.{shown_word}
 use Rattle.std.proofs.Common.{◌≡◌, ℕ, ◌+◌, ◌*◌, ◌<◌, ◌≤◌, false}
 use Rattle.ct_base.specs.Ranges.{byte_shown, fits}
 use Rattle.ct_header.proofs.scan.first_child.Given as goal

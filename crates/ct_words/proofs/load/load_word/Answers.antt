@@ -1,8 +1,8 @@
 use Rattle.std.proofs.Common.{◌≡◌, ap, ◌∙◌, arith}
 use Rattle.ct_base.specs.Words.{word_at}
 use Rattle.ct_image.proofs.Write.{word_at-walk}
-use Rattle.ct_header.proofs.Shown.{shown-fits}
-use Rattle.ct_header.proofs.load.load_word.Goals as goal
+use Rattle.ct_words.proofs.Shown.{shown-fits}
+use Rattle.ct_words.proofs.load.load_word.Goals as goal
 
 pub returns : goal.returns
 returns g c =

@@ -2,9 +2,9 @@ use Rattle.std.proofs.Common.{◌*◌, ◌+◌, ◌%◌, ◌/◌, sym, ap, ◌�
 use Rattle.ct_base.specs.Walk.{word}
 use Rattle.ct_base.specs.Words.{place_at}
 use Rattle.ct_image.proofs.Write.{word_at-there}
-use Rattle.ct_header.specs.Drafted.{drafted}
-use Rattle.ct_header.proofs.Placed.{same_page}
-use Rattle.ct_header.proofs.draft.value_at.Goals as goal
+use Rattle.ct_record.specs.Seen.{drafted}
+use Rattle.ct_words.proofs.Placed.{same_page}
+use Rattle.ct_words.proofs.draft.value_at.Goals as goal
 
 pub returns : goal.returns
 returns g c =

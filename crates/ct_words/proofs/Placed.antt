@@ -10,9 +10,10 @@ use Rattle.ct_image.proofs.Write.{at_here, at_others, cells, same_count, tables_
 use Rattle.ct_pm.specs.Device.{SameOff}
 use Rattle.ct_image.proofs.Pairs.{length-with_pairs, with_pairs_alike}
 use Rattle.ct_record.specs.Record.{InRecord}
+use Rattle.ct_record.proofs.Under.{under_beside}
 use Rattle.ct_walk.specs.Pages.{some_page}
 use Rattle.ct_walk.proofs.Entries.{some_page-is, some_page-none}
-use Rattle.ct_header.specs.Drafted.{MapsAlike}
+use Rattle.ct_words.specs.Drafted.{MapsAlike}
 
 -- what a walk that answered says
 pub walk_some : (img : List ℕ) (v page : ℕ) → v < 281474976710656 → AreTables img → Some page ≡ some_page (walk img v)
@@ -38,10 +39,6 @@ record_beside old new ps same =
       front = λ w lt. with_pairs_alike ps new old w same.size (λ _. same.others w (λ is. omega (arith, is.0)));
       back = λ w le. with_pairs_alike ps new old w same.size (λ _. same.others w (λ is. omega (arith, is.1)));
     }
-
-pub under_beside : (old new : List ℕ) → SameOff InRecord new old → Beside old new
-under_beside old new same =
-    record { size = same.size; front = λ w lt. same.others w (λ is. omega (arith, is.0)); back = λ w le. same.others w (λ is. omega (arith, is.1)) }
 
 -- the page of an address
 pub same_page : (a : ℕ) {img changed : List ℕ} → MapsAlike (a / 549755813888) img changed → page_at changed 4 (a / 4096) ≡ page_at img 4 (a / 4096)

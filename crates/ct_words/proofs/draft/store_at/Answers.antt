@@ -1,9 +1,9 @@
 use Rattle.std.proofs.Common.{ap, ◌∙◌, ◌∷◌}
 use Rattle.ct_base.specs.Words.{place_at}
 use Rattle.ct_record.specs.Seen.{pairs_of, words_under}
-use Rattle.ct_header.proofs.Placed.{Adds, adds_written, adds_others, adds_cells, adds_maps}
-use Rattle.ct_header.proofs.draft.store_at.Given.{Over}
-use Rattle.ct_header.proofs.draft.store_at.Goals as goal
+use Rattle.ct_words.proofs.Placed.{Adds, adds_written, adds_others, adds_cells, adds_maps}
+use Rattle.ct_words.proofs.draft.store_at.Given.{Over}
+use Rattle.ct_words.proofs.draft.store_at.Goals as goal
 
 -- the pair that was added
 added : (g : Over) (c : goal.In_ok-add g) → Adds (words_under c.args.draft.now) (words_under c.add.new.self) (pairs_of c.args.draft.now) (pairs_of c.add.new.self) c.args.address c.args.value

@@ -3,8 +3,8 @@ ghost use Rattle.std.specs.Prelude.{◌≡◌, ◌≢◌, ℕ, ◌+◌, ◌/◌,
 ghost use Rattle.ct_base.specs.Causes.{HasCause};
 ghost use Rattle.ct_base.specs.Walk.{page_at};
 ghost use Rattle.ct_base.specs.Words.{place_at, word_at};
-ghost use Rattle.ct_record.specs.Seen.{Drafts, count_of, faults_under, pairs_of, words_under};
-ghost use Rattle.ct_header.specs.Drafted.{KeepsCells, MapsAlike, drafted};
+ghost use Rattle.ct_record.specs.Seen.{Drafts, count_of, drafted, faults_under, pairs_of, words_under};
+ghost use Rattle.ct_words.specs.Drafted.{KeepsCells, MapsAlike};
 
 use crate::load::place_of;
 use ct_pm::{Pm, PmFault};

@@ -1,7 +1,7 @@
 use Rattle.std.proofs.Common.{◌≡◌, ◌*◌, ◌+◌, ◌%◌, ◌/◌, ap, sym, ◌∙◌, arith}
 use Rattle.ct_base.specs.Walk.{page_at}
-use Rattle.ct_header.proofs.Placed.{walk_some, walk_none}
-use Rattle.ct_header.proofs.load.place_of.Goals as goal
+use Rattle.ct_words.proofs.Placed.{walk_some, walk_none}
+use Rattle.ct_words.proofs.load.place_of.Goals as goal
 
 pub unreachable-requires : goal.unreachable-requires
 unreachable-requires g c =

@@ -1,7 +1,8 @@
+// Words by address, read on a device.
 ghost use Rattle.std.specs.Prelude.{◌≡◌, ◌≢◌, ◌+◌, ◌*◌, ◌/◌, ◌^◌, ◌<◌, ◌≤◌, ◌%◌};
 ghost use Rattle.ct_base.specs.Walk.{AreTables, page_at, page_count};
 ghost use Rattle.ct_base.specs.Words.{place_at};
-ghost use Rattle.ct_header.specs.Shown.{shown_word};
+ghost use Rattle.ct_words.specs.Shown.{shown_word};
 
 use ct_base::Vaddr;
 use ct_pm::Pm;

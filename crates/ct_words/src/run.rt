@@ -1,0 +1,61 @@
+// Words that follow each other in a page, changed through a draft.
+ghost use Rattle.std.specs.Prelude.{◌≡◌, ◌≢◌, ℕ, ◌+◌, ◌*◌, ◌/◌, ◌%◌, ◌^◌, ◌<◌, ◌≤◌, ◌++◌, length, OnOk};
+ghost use Rattle.ct_base.specs.Causes.{HasCause};
+ghost use Rattle.ct_base.specs.Walk.{page_at, page_count, AreTables};
+ghost use Rattle.ct_base.specs.Words.{Rewrites, pairs_to, place_at};
+ghost use Rattle.ct_record.specs.Seen.{Drafts, count_of, drafted, faults_under, pairs_of, words_under};
+ghost use Rattle.ct_words.specs.Drafted.{MapsAlike};
+
+use crate::load::place_of;
+use ct_pm::{Pm, PmFault};
+use ct_record::Draft;
+
+// Drafts the values for the device words from a place on.
+fn add_words<D: Pm>(draft: &mut Draft<D>, place: u64, values: &[u64]) -> Result<(), PmFault>
+    requires low { 16896 ≤ place }
+    requires high { place + length values.now ≤ 512 * page_count (words_under draft.old) }
+    requires room { count_of draft.old + length values.now ≤ 8184 }
+    ensures added { OnOk result (pairs_of draft.new ≡ pairs_to place values.now (length values.now) ++ pairs_of draft.old) }
+    ensures count { OnOk result (count_of draft.new ≡ count_of draft.old + length values.now) }
+    ensures drafts { Drafts draft.old draft.new }
+    ensures cause { HasCause (faults_under draft.old) (faults_under draft.new) result }
+{
+    for i in 0..values.len() {
+        draft.add(place + i as u64, values[i])?;
+    }
+    Ok(())
+}
+
+/// Drafts the values for the words from an address on, all of them in one page that is there: a pair for each.
+///
+/// After an error the draft has some of the pairs, and is to be abandoned.
+///
+/// # Errors
+///
+/// `PmFault` where the device failed.
+pub fn put_words<D: Pm>(draft: &mut Draft<D>, address: u64, values: &[u64]) -> Result<(), PmFault>
+    requires tables { AreTables (words_under draft.old) }
+    requires high { address < 2 ^ 48 }
+    requires aligned { address % 8 ≡ 0 }
+    requires inside { address % 4096 + 8 * length values.now ≤ 4096 }
+    requires there { page_at (words_under draft.old) 4 (address / 4096) ≢ 0 }
+    requires room { count_of draft.old + length values.now ≤ 8184 }
+
+    ensures added { OnOk result (pairs_of draft.new
+        ≡ pairs_to (place_at (words_under draft.old) address) values.now (length values.now) ++ pairs_of draft.old) }
+    ensures count { OnOk result (count_of draft.new ≡ count_of draft.old + length values.now) }
+
+    // Where the pairs so far left the tables and the pages of the root slot, the words become the values, and all others stay.
+    ensures rewrites { OnOk result (MapsAlike (address / 2 ^ 39) (words_under draft.old) (drafted draft.old)
+        → Rewrites (drafted draft.old) (drafted draft.new) address values.now) }
+    ensures maps { OnOk result (MapsAlike (address / 2 ^ 39) (words_under draft.old) (drafted draft.old)
+        → (slot : ℕ) → MapsAlike slot (words_under draft.old) (drafted draft.old)
+        → MapsAlike slot (words_under draft.new) (drafted draft.new)) }
+
+    ensures drafts { Drafts draft.old draft.new }
+    ensures cause { HasCause (faults_under draft.old) (faults_under draft.new) result }
+{
+    let place = place_of(draft.dev(), address);
+    add_words(draft, place, values)?;
+    Ok(())
+}

@@ -1,0 +1,11 @@
+pub mod Checked
+pub mod Choosing
+pub mod Counting
+pub mod Held
+pub mod Matching
+pub mod Orders
+pub mod Readable
+pub mod Spelling
+pub mod Stepping
+pub mod Texts
+pub mod Written

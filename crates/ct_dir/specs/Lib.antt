@@ -1,0 +1,5 @@
+pub mod Directory
+pub mod Keys
+pub mod Nearest
+pub mod Packed
+pub mod Reading

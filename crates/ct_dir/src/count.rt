@@ -1,0 +1,38 @@
+// How many slots are used, and which is the first that is not.
+ghost use Rattle.std.specs.Prelude.{◌≡◌, length};
+ghost use Rattle.ct_base.specs.Slots.{entries as entries_of, free_slot as free_slot_of};
+ghost use Rattle.ct_dir.specs.Directory.{IsReadable, dir_of};
+
+use crate::slot::SLOT_BYTES;
+use crate::slots::Slots;
+use ct_base::Inode;
+use ct_pm::Pm;
+
+/// The offset of the first empty slot of a directory, and its size where none is empty.
+pub fn free_slot<D: Pm>(dev: &D, dir: Inode) -> u64
+    requires { IsReadable (D.words dev.now) dir }
+    ensures { result ≡ free_slot_of (dir_of (D.words dev.now) dir) }
+{
+    let mut slots = Slots::of(dir);
+    let mut free = 0;
+    while let Some(slot) = slots.next(dev) {
+        if slot.offset != free {
+            return free;
+        }
+        free += SLOT_BYTES;
+    }
+    free
+}
+
+/// The number of entries of a directory: its slots that are used.
+pub fn entries<D: Pm>(dev: &D, dir: Inode) -> u64
+    requires { IsReadable (D.words dev.now) dir }
+    ensures { result ≡ length (entries_of (dir_of (D.words dev.now) dir)) }
+{
+    let mut slots = Slots::of(dir);
+    let mut count = 0;
+    while let Some(_slot) = slots.next(dev) {
+        count += 1;
+    }
+    count
+}

@@ -1,0 +1,20 @@
+//! Directories: slots of 256 bytes, found by name, read, set and cleared.
+//!
+//! The one model is the directory as an object: a kind, a size and the bytes below the size, by offset and not by address.
+//! A slot that is used holds the number of an inode and a name. No call takes memory.
+#![tactic(auto)]
+
+mod change;
+mod count;
+mod lookup;
+mod names;
+mod order;
+mod slot;
+mod slots;
+#[cfg(test)]
+mod tests;
+
+pub use change::{clear, set};
+pub use count::{entries, free_slot};
+pub use lookup::{Found, find, name_at};
+pub use order::next_after;

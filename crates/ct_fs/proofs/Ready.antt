@@ -1,0 +1,18 @@
+-- What a mount that is ready shows.
+use Rattle.std.proofs.Common.{◌≡◌, Option, Some, None, sym, ap, true≢false}
+use Rattle.std.specs.Prelude.{IsSome}
+use Rattle.std.proofs.lemmas.Option.{none-some, same_Some}
+use Rattle.ct_fs.specs.Mounted.{Volume}
+use Rattle.ct_fs.specs.Seen.{dev_in, fs_dev, mounts, ready_in}
+use Rattle.ct_fs.specs.declared.mount.Fs.{Fs}
+use Rattle.ct_fs.specs.declared.mount.State.{State}
+use Rattle.ct_fs.specs.declared.mount.State.TheVariants.{Ready, Dead}
+
+dev_ready : {D : Type 0} {bound : _} (state : Option (State D bound)) (here : IsSome state) (now : Volume D) → ready_in state ≡ Some now → dev_in state here ≡ now.dev
+dev_ready None here now is = absurd (true≢false (sym here))
+dev_ready {D = D} (Some (Ready mounted)) here now is = ap (λ (v : Volume D). v.dev) (same_Some mounted now is)
+dev_ready (Some (Dead failed)) here now is = absurd (none-some now is)
+
+-- its device is the mount's
+pub ready_dev : {D : Type 0} {bound : _} (fs : Fs D bound) (now : Volume D) → mounts fs ≡ Some now → fs_dev fs ≡ now.dev
+ready_dev fs now is = dev_ready fs.state fs.here now is

@@ -1,0 +1,17 @@
+use Rattle.std.proofs.Common.{subst, sym}
+use Rattle.ct_fs.specs.Formatting.{IsFormatImage}
+use Rattle.ct_pm.specs.Device.{LeavesOnly}
+use Rattle.ct_fs.proofs.Moments.{any_moment}
+use Rattle.ct_fs.proofs.Ready.{ready_dev}
+use Rattle.ct_fs.proofs.formatting.format.Goals as goal
+
+pub returns-in-Ok-clause-any_moment : goal.returns-in-Ok-clause-any_moment
+returns-in-Ok-clause-any_moment g c =
+    let words = g.D.Pm.words c.args.dev in
+    let told = g.D.Pm.told c.args.dev in
+    subst (λ dev. LeavesOnly told (g.D.Pm.told dev) (IsFormatImage words)) (sym (ready_dev c.of.result c.in-Ok.made c.of.ensures))
+    (any_moment words told (g.D.Pm.told c.in-Ok.made.dev) c.in-Ok.ensures.moments)
+
+pub returns-in-Err-clause-any_moment : goal.returns-in-Err-clause-any_moment
+returns-in-Err-clause-any_moment g c =
+    any_moment (g.D.Pm.words c.args.dev) (g.D.Pm.told c.args.dev) (g.D.Pm.told c.in-Err.no_mount.dev) c.in-Err.ensures.moments

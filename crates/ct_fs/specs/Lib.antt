@@ -1,0 +1,12 @@
+pub mod Answers
+pub mod Calls
+pub mod Entry
+pub mod Formatting
+pub mod Looks
+pub mod Made
+pub mod Makes
+pub mod Mounted
+pub mod Plans
+pub mod Rooms
+pub mod Seen
+pub mod Spots

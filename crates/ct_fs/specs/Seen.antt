@@ -1,0 +1,34 @@
+-- What callers see of a file system.
+use Rattle.std.specs.Prelude.{Option, Some, None, IsSome}
+use Rattle.std.proofs.Common.{true≢false, sym}
+use Rattle.ct_fs.specs.declared.mount.Fs.{Fs}
+use Rattle.ct_fs.specs.Mounted.{Volume}
+use Rattle.ct_fs.specs.declared.mount.State.{State}
+use Rattle.ct_fs.specs.declared.mount.State.TheVariants.{Ready, Dead}
+
+abbrev pub ready_in : {D : Type 0} {bound : _} → Option (State D bound) → Option (Volume D)
+ready_in None = None
+ready_in (Some (Ready mounted)) = Some mounted
+ready_in (Some (Dead failed)) = None
+
+-- the device and its free pages, and nothing where a call met a fault
+abbrev pub mounts : {D : Type 0} {bound : _} → Fs D bound → Option (Volume D)
+mounts fs = ready_in fs.state
+
+abbrev pub device_in : {D : Type 0} {bound : _} → Option (State D bound) → Option D
+device_in None = None
+device_in (Some (Ready mounted)) = Some mounted.dev
+device_in (Some (Dead failed)) = Some failed.dev
+
+abbrev pub device_of : {D : Type 0} {bound : _} → Fs D bound → Option D
+device_of fs = device_in fs.state
+
+-- there is a state, and so a device
+abbrev pub dev_in : {D : Type 0} {bound : _} → (state : Option (State D bound)) → IsSome state → D
+dev_in None here = absurd (true≢false (sym here))
+dev_in (Some (Ready mounted)) here = mounted.dev
+dev_in (Some (Dead failed)) here = failed.dev
+
+-- the device, whether or not a call met a fault
+abbrev pub fs_dev : {D : Type 0} {bound : _} → Fs D bound → D
+fs_dev fs = dev_in fs.state fs.here

@@ -157,7 +157,7 @@ module _ {img : List ℕ} (rest : IsAtRest img) {dir : ℕ} {f : Inode} {offset 
   }
 
   -- after growth
-  left_missing : {new : List ℕ} {level number : ℕ} → slot_growth f offset ≡ Some level → free_parts (live_parts (view img) (inode_count img)) level ≢ []
+  pub left_missing : {new : List ℕ} {level number : ℕ} → slot_growth f offset ≡ Some level → free_parts (live_parts (view img) (inode_count img)) level ≢ []
       → MovesCells img new f (next_part (view img) (inode_count img) level) → number ≤ 1048576
       → missing new (entry_wants ((next_part (view img) (inode_count img) level).base + offset) number) + growth_need img f level ≤ missing img (plan_for img f offset number).wants
   left_missing {new} {level} {number} goes some moves few =
@@ -171,10 +171,10 @@ module _ {img : List ℕ} (rest : IsAtRest img) {dir : ℕ} {f : Inode} {offset 
       omega (arith, left, ap (missing img) (wants_grown img f offset number level goes (is_past grows)))
 
   module _ {frames : FreePages} {plan : EntryPlan} (is : IsEntryPlan img frames f offset plan) where
-    growth_is : slot_growth f offset ≡ plan.growth
+    pub growth_is : slot_growth f offset ≡ plan.growth
     growth_is = sym (plan-growth img f offset plan.number) ∙ is.growth
 
-    number_fits : plan.number ≤ 1048576
+    pub number_fits : plan.number ≤ 1048576
     number_fits = omega (arith, (free_is (view img) (inode_count img) plan.number is.number).0.to, rest.head.inodes.1)
 
     -- A directory that stays has the slot, and the pages of the slot and of the inode can be made.

@@ -22,7 +22,7 @@ use Rattle.ct_state.proofs.Bytes.{little-same, objects-in}
 use Rattle.ct_state.proofs.Created.{Creates}
 use Rattle.ct_state.proofs.Entry.{IsFilled, MakesEntry}
 use Rattle.ct_state.proofs.Write.{HasSpace}
-use Rattle.ct_fs.specs.Entry.{IsSpot, IsFreeInode, WritesEntry, KeepsTables, empty_inode}
+use Rattle.ct_fs.specs.Entry.{IsSpot, IsFreeInode, WritesEntry, KeepsPart, KeepsTables, empty_inode}
 use Rattle.ct_fs.specs.Mounted.{IsAtRest}
 
 -- a partition's bytes are looked at
@@ -271,6 +271,16 @@ module _ {old new : List ℕ} {dir : ℕ} {f : Inode} {offset : ℕ} {name : Lis
       (elim (cases_lt j number) [ inl less ↦ inl (omega arith) | inr more ↦ inr (omega (arith, other)) ])
       (elim (cases_lt dir j) [ inl less ↦ inr (omega arith) | inr more ↦ inl (omega arith) ])
       (inl (omega (arith, low))))
+
+  -- the directory keeps its partition
+  dir_word : (k : ℕ) → 2 ≤ k → k < 4 → inode_word (view new) dir k ≡ inode_word (view old) dir k
+  dir_word k from to = little-same (view old) (view new) (64 * dir + 8 * k) (64 * dir + 8 * k) 8 (λ j lt.
+      let ne = apart_from in
+      let low = room.part.low in
+      others (64 * dir + 8 * k + j) (elim (cases_lt dir number) [ inl less ↦ inl (omega arith) | inr more ↦ inr (omega arith) ]) (inr (omega arith)) (inl (omega (arith, low, dir_few))))
+
+  pub part_stays : KeepsPart old new dir
+  part_stays = (dir_word 2 (omega arith) (omega arith), dir_word 3 (omega arith) (omega arith))
 
   pub entry_kind : (inode (view new) number).kind ≡ kind
   entry_kind = ap (λ (g : Inode). g.kind) object_is

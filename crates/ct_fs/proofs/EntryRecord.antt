@@ -26,9 +26,11 @@ use Rattle.ct_words.proofs.Placed.{record_beside}
 use Rattle.ct_grow.specs.Moments.{SparesFiles}
 use Rattle.ct_fs.specs.Calls.{StandsFor}
 use Rattle.ct_fs.specs.Mounted.{IsAtRest}
-use Rattle.ct_fs.specs.Entry.{HasEntry, IsEntryWord, IsFreeInode, IsSpot, SparesReplay, WritesEntry, with_node}
+use Rattle.ct_fs.specs.Entry.{HasEntry, IsEntryWord, IsFreeInode, IsSpot, SparesReplay, WritesEntry, with_node, KeepsPart}
+use Rattle.ct_fs.specs.Placed.{HasSlot}
+use Rattle.ct_fs.proofs.Slotted.{has_slot}
 use Rattle.ct_fs.proofs.Entered.{either_lands, has_entry, settles_lands}
-use Rattle.ct_fs.proofs.Entering.{Enters, spot_there}
+use Rattle.ct_fs.proofs.Entering.{Enters, spot_there, part_stays}
 use Rattle.ct_fs.proofs.FilePages.{entry_page, record_spares, settled_page, word_spares}
 
 -- words at rest, and the entry that they are asked for
@@ -126,6 +128,12 @@ module _ {was words : List ℕ} {start mid : Option History} {pairs : List Pair}
 
   pub done_entry : (done : List ℕ) → SameOff InRecord done (with_pairs pairs words) → IsShut done → HasEntry was done dir name kind
   done_entry done same shut = has_entry (enters_of done (under_beside (with_pairs pairs words) done same)) shut
+
+  pub done_slot : (done : List ℕ) → SameOff InRecord done (with_pairs pairs words) → HasSlot (files done dir) offset number name
+  done_slot done same = has_slot (enters_of done (under_beside (with_pairs pairs words) done same))
+
+  pub done_part : (done : List ℕ) → SameOff InRecord done (with_pairs pairs words) → KeepsPart was done dir
+  done_part done same = part_stays (enters_of done (under_beside (with_pairs pairs words) done same))
 
   -- the words at the begin, with the pairs
   all_enters : Enters was (with_pairs pairs was) dir f offset name number kind

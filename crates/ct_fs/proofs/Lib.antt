@@ -20,6 +20,7 @@ pub mod Offered
 pub mod Out
 pub mod Paged
 pub mod Peeking
+pub mod Placing
 pub mod Places
 pub mod Planned
 pub mod Promoted
@@ -27,6 +28,8 @@ pub mod Ready
 pub mod Resting
 pub mod Rooms
 pub mod Runs
+pub mod Slotted
+pub mod Spaces
 pub mod Spotting
 pub mod Vacant
 pub mod Wanted

@@ -131,6 +131,11 @@ module _ {w : List ℕ} {before : FreePages} {dir : ℕ} {f : Inode} {offset : �
   pub place_after : {new : List ℕ} {after : FreePages} → files new ≡ files w → Gives w new before after dir growth → HasPlace new after dir offset number
   place_after same gives = gives_place same growth refl gives
 
+-- no inode more, and none fewer
+pub gives_count : (w new : List ℕ) (before after : FreePages) (dir : ℕ) (growth : Option ℕ) → Gives w new before after dir growth → inode_count new ≡ inode_count w
+gives_count w new before after dir None gives = ap inode_count gives.0
+gives_count w new before after dir (Some level) gives = gives.promoted.superblock 3 (omega arith)
+
 -- the words stand for the trees for which they stood
 pub same_stands : {w new : List ℕ} {t : Tree} → files new ≡ files w → StandsFor w t → StandsFor new t
 same_stands {t = t} same st = record { tree = st.tree; stands = subst (λ fs. Stands fs 1 t) (sym same) st.stands }

@@ -1,9 +1,9 @@
 -- Two pages that are made.
-use Rattle.std.proofs.Common.{◌≡◌, ◌≢◌, ℕ, ◌/◌, [], ◌∷◌, List, Option, subst, ap, ◌∙◌, arith}
+use Rattle.std.proofs.Common.{◌≡◌, ◌≢◌, ℕ, ◌+◌, ◌/◌, ◌≤◌, false, length, [], ◌∷◌, List, Option, subst, ap, ◌∙◌, arith}
 use Rattle.ct_base.specs.Plan.{page_want}
 use Rattle.ct_base.specs.State.{SameState}
 use Rattle.ct_base.specs.Walk.{page_at}
-use Rattle.ct_base.specs.Wants.{Want}
+use Rattle.ct_base.specs.Wants.{Want, is_wanted, missing}
 use Rattle.ct_frames.specs.Free.{FreePages}
 use Rattle.ct_pm.specs.Device.{LeavesOnly, NothingPending}
 use Rattle.ct_pm.specs.Images.{History}
@@ -47,3 +47,10 @@ module _ {old new : List ℕ} {told now : Option History} {before after : FreePa
 
   pub paged_second : HasAll new (p.one ∷ p.two ∷ []) → page_at new 4 (second / 4096) ≢ 0
   paged_second all = (subst (λ (ws : List Want). HasAll new ws) wants_are all).1.0 second (omega arith) (omega arith)
+
+  -- what is not wanted stays
+  pub paged_cells : (d x : ℕ) → d ≤ 4 → is_wanted (page_want first ∷ page_want second ∷ []) d x ≡ false → page_at new d x ≡ page_at old d x
+  paged_cells = extended.grown.cells
+
+  pub paged_taken : length after.free + missing old (p.one ∷ p.two ∷ []) ≡ length before.free → length after.free + missing old (page_want first ∷ page_want second ∷ []) ≡ length before.free
+  paged_taken taken = subst (λ (ws : List Want). length after.free + missing old ws ≡ length before.free) wants_are taken

@@ -66,18 +66,18 @@ module _ {img : List ℕ} (rest : IsAtRest img) {dir : ℕ} {f : Inode} {offset 
   none_lacks op makes none = (makes_node img dir op makes, none)
 
   module _ {number : ℕ} (first : first_free_number (view img) (inode_count img) ≡ Some number) where
-    same_number : (n : ℕ) → first_free_number (view img) (inode_count img) ≡ Some n → n ≡ number
+    pub same_number : (n : ℕ) → first_free_number (view img) (inode_count img) ≡ Some n → n ≡ number
     same_number n other = let both : Some n ≡ Some number = sym other ∙ first in cc
 
     pub has_inode : (op : Op) → ¬ LacksInode img op
     has_inode op lacks = let both : None ≡ Some number = sym lacks.1 ∙ first in absurd (cc)
 
-    only_growth : (op : Op) (level : ℕ) → MakesIn img dir op → Grows img op level → slot_growth f offset ≡ Some level
+    pub only_growth : (op : Op) (level : ℕ) → MakesIn img dir op → Grows img op level → slot_growth f offset ≡ Some level
     only_growth op level makes grows =
         let only = only_plan op grows.0 makes grows.1 in
         sym (plan-growth img f offset only.0) ∙ ap (λ (p : Plan). p.growth) (sym only.2) ∙ grows.2
 
-    only_need : (op : Op) (need : ℕ) → MakesIn img dir op → HasNeed img op need → need ≡ missing img (plan_for img f offset number).wants
+    pub only_need : (op : Op) (need : ℕ) → MakesIn img dir op → HasNeed img op need → need ≡ missing img (plan_for img f offset number).wants
     only_need op need makes has =
         let only = only_plan op has.0 makes has.1 in
         has.2 ∙ ap (λ (p : Plan). missing img p.wants) only.2 ∙ ap (λ n. missing img (plan_for img f offset n).wants) (same_number only.0 only.1)

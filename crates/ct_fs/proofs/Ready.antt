@@ -1,7 +1,13 @@
 -- What a mount that is ready shows.
-use Rattle.std.proofs.Common.{◌≡◌, Option, Some, None, sym, ap, true≢false}
-use Rattle.std.specs.Prelude.{IsSome}
+use Rattle.std.proofs.Common.{◌≡◌, Option, Some, None, ℕ, sym, ap, subst, true≢false}
+use Rattle.std.specs.Prelude.{IsSome, IsSomeAnd}
 use Rattle.std.proofs.lemmas.Option.{none-some, same_Some}
+use Rattle.ct_pm.specs.Device.{NothingPending}
+use Rattle.ct_tree.specs.Tree.{Dir, none}
+use Rattle.ct_fs.proofs.Fresh.{new_mounted}
+use Rattle.ct_fs.proofs.Resting.{mounted_rest}
+use Rattle.ct_fs.specs.Calls.{Holds, Keeps}
+use Rattle.ct_fs.specs.Made.{IsNew}
 use Rattle.ct_fs.specs.Mounted.{Volume}
 use Rattle.ct_fs.specs.Seen.{dev_in, fs_dev, mounts, ready_in}
 use Rattle.ct_fs.specs.declared.mount.Fs.{Fs}
@@ -16,3 +22,10 @@ dev_ready (Some (Dead failed)) here now is = absurd (none-some now is)
 -- its device is the mount's
 pub ready_dev : {D : Type 0} {bound : _} (fs : Fs D bound) (now : Volume D) → mounts fs ≡ Some now → fs_dev fs ≡ now.dev
 ready_dev fs now is = dev_ready fs.state fs.here now is
+
+-- and holds the empty tree, where it was made just now
+pub new_keeps : {D : Type 0} {bound : _} (fs : Fs D bound) (now : Volume D) {pages n : ℕ} → mounts fs ≡ Some now → IsNew (bound.words now.dev) now.frames pages n → NothingPending (bound.told now.dev)
+    → Keeps n fs.state (Dir none)
+new_keeps {D = D} {bound = bound} fs now {n = n} is new settled =
+    subst (λ (o : Option (Volume D)). IsSomeAnd o (λ v. Holds n (Dir none) (bound.words v.dev) (bound.told v.dev))) (sym is)
+    (record { rest = mounted_rest (new_mounted new settled); stands = new.stands; lasts = settled; counted = new.formatted.inodes })

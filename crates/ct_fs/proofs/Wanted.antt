@@ -32,13 +32,13 @@ free_unused f whole slot = slot.used (free_empty f 0 (f.size / 256) (omega (arit
 -- ---- the pages
 
 -- a page is wanted at one address: the cell's range holds it
-at_address : (d x v : ℕ) → is_on_path d x (page_want v) ≡ true → (x * (4096 * 512 ^ (4 - d)) ≤ v) × (v < (x + 1) * (4096 * 512 ^ (4 - d)))
+pub at_address : (d x v : ℕ) → is_on_path d x (page_want v) ≡ true → (x * (4096 * 512 ^ (4 - d)) ≤ v) × (v < (x + 1) * (4096 * 512 ^ (4 - d)))
 at_address d x v on =
     let parts = and_parts (nat_le (d + 0) 4) (nat_le (x * (4096 * 512 ^ (4 - d)) + 1) (v + 1) && nat_lt v ((x + 1) * (4096 * 512 ^ (4 - d)))) on in
     let both = and_parts (nat_le (x * (4096 * 512 ^ (4 - d)) + 1) (v + 1)) (nat_lt v ((x + 1) * (4096 * 512 ^ (4 - d)))) parts.1 in
     (omega (arith, leb-true (x * (4096 * 512 ^ (4 - d)) + 1) (v + 1) both.0), ltb-true v ((x + 1) * (4096 * 512 ^ (4 - d))) both.1)
 
-two_cases : (d x v u : ℕ) → is_wanted (page_want v ∷ page_want u ∷ []) d x ≡ true → (is_on_path d x (page_want v) ≡ true) ⊎ (is_on_path d x (page_want u) ≡ true)
+pub two_cases : (d x v u : ℕ) → is_wanted (page_want v ∷ page_want u ∷ []) d x ≡ true → (is_on_path d x (page_want v) ≡ true) ⊎ (is_on_path d x (page_want u) ≡ true)
 two_cases d x v u is = elim (or_cases (is_on_path d x (page_want v)) (is_on_path d x (page_want u) || false) is) [
   | inl first ↦ inl first
   | inr more ↦ elim (or_cases (is_on_path d x (page_want u)) false more) [ inl second ↦ inr second | inr none ↦ absurd (Rattle.std.proofs.lemmas.Bool.false≢true none) ]

@@ -6,11 +6,12 @@ use Rattle.ct_base.specs.Inode.{free_parts, live_parts}
 use Rattle.ct_base.specs.Plan.{first_free_number}
 use Rattle.ct_base.specs.View.{view, inode_count}
 use Rattle.ct_tree.specs.Need.{Grows, HasNeed}
-use Rattle.ct_tree.specs.Runs.{MakesNode}
-use Rattle.ct_tree.specs.Step.{Op, refusal}
+use Rattle.ct_tree.specs.Runs.{CallAnswers, MakesNode}
+use Rattle.ct_tree.specs.Step.{Op, refusal, step}
 use Rattle.ct_tree.specs.Tree.{Tree}
 use Rattle.ct_tree.specs.declared.call.Refusal.{Refusal}
 use Rattle.ct_tree.specs.declared.call.Refusal.TheVariants.{NoInode, NoPartition, NoPages}
+use Rattle.ct_tree.specs.declared.call.Reply.TheVariants.{Done, Refused as refused}
 use Rattle.ct_fs.specs.declared.mount.FsError.{FsError}
 use Rattle.ct_fs.specs.declared.mount.FsError.TheVariants.{Dead, Refused, Fault}
 
@@ -55,3 +56,10 @@ IsAnswer img t op (Err Fault) = CanStart img t op
 abbrev pub IsPrepared : {T : Type 0} → List ℕ → Tree → Op → Result T Refusal → Type 0
 IsPrepared img t op (Ok value) = CanStart img t op
 IsPrepared img t op (Err r) = IsRefused img t op r
+
+-- a tree with so many inodes may answer so: with its own reply, or with a refusal for space
+abbrev pub IsTold : {T : Type 0} → ℕ → Tree → Op → Result T FsError → Type 0
+IsTold count t op (Ok value) = CallAnswers count t op Done (step t op).1
+IsTold count t op (Err Dead) = ⊥
+IsTold count t op (Err (Refused r)) = CallAnswers count t op (refused r) t
+IsTold count t op (Err Fault) = Unit {0}

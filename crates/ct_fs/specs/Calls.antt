@@ -1,17 +1,19 @@
 -- What a call does to a mounted file system.
-use Rattle.std.specs.Prelude.{◌≡◌, ◌⊎◌, ℕ, List, Some, None, Ok, Err, IsSomeAnd}
+use Rattle.std.specs.Prelude.{◌≡◌, ◌⊎◌, ℕ, ◌≤◌, List, Some, None, Ok, Err, IsSomeAnd}
 use Rattle.std.specs.declared.option.Option.{Option}
 use Rattle.std.specs.declared.result.Result.{Result}
 use Rattle.ct_base.specs.Causes.{Rose}
+use Rattle.ct_base.specs.View.{inode_count}
 use Rattle.ct_pm.specs.Device.{LeavesOnly, NothingPending}
+use Rattle.ct_pm.specs.Images.{History}
 use Rattle.ct_tree.specs.Lands.{Lands, files}
 use Rattle.ct_tree.specs.Ordered.{IsTree}
 use Rattle.ct_tree.specs.Stands.{Stands}
 use Rattle.ct_tree.specs.Step.{Op, step}
 use Rattle.ct_tree.specs.Tree.{Tree}
-use Rattle.ct_fs.specs.Answers.{IsAnswer}
-use Rattle.ct_fs.specs.Mounted.{Volume}
-use Rattle.ct_fs.specs.Seen.{device_in, ready_in}
+use Rattle.ct_fs.specs.Answers.{IsAnswer, IsTold}
+use Rattle.ct_fs.specs.Mounted.{IsAtRest, Volume}
+use Rattle.ct_fs.specs.Seen.{device_in, faults_in, ready_in}
 use Rattle.ct_fs.specs.declared.mount.FsError.{FsError}
 use Rattle.ct_fs.specs.declared.mount.FsError.TheVariants.{Dead, Refused, Fault}
 use Rattle.ct_fs.specs.declared.mount.State.{State}
@@ -25,13 +27,20 @@ pub record StandsFor (img : List ℕ) (t : Tree) : Type 0 where
 abbrev pub after : Tree → Op → Tree
 after t op = (step t op).1
 
--- the mount is ready, its words stand for the tree, and a crash leaves nothing else
-abbrev pub Keeps : {D : Type 0} {bound : _} → Option (State D bound) → Tree → Type 0
-Keeps {bound = bound} state t = IsSomeAnd (ready_in state) (λ now. StandsFor (bound.words now.dev) t × NothingPending (bound.told now.dev))
+-- the device holds the tree, and has so many inodes: the words are at rest and stand for it, and a crash leaves nothing else
+pub record Holds (count : ℕ) (t : Tree) (words : List ℕ) (told : Option History) : Type 0 where
+  pub rest : IsAtRest words
+  pub stands : StandsFor words t
+  pub lasts : NothingPending told
+  pub counted : inode_count words ≡ count
+
+-- the mount is ready, and its device holds the tree
+abbrev pub Keeps : {D : Type 0} {bound : _} → ℕ → Option (State D bound) → Tree → Type 0
+Keeps {bound = bound} count state t = IsSomeAnd (ready_in state) (λ now. Holds count t (bound.words now.dev) (bound.told now.dev))
 
 -- what is left of the mount: the tree of the call, what was there, or nothing but the device
 abbrev pub Leaves : {D T : Type 0} {bound : _} → Volume D → Tree → Op → Option (State D bound) → Result T FsError → Type 0
-Leaves was t op state (Ok value) = Keeps state (after t op)
+Leaves {bound = bound} was t op state (Ok value) = Keeps (inode_count (bound.words was.dev)) state (after t op)
 Leaves was t op state (Err Dead) = ⊥
 Leaves was t op state (Err (Refused r)) = ready_in state ≡ Some was
 Leaves {bound = bound} was t op state (Err Fault) = (ready_in state ≡ None) × IsSomeAnd (device_in state) (λ dev. Rose (bound.faults was.dev) (bound.faults dev))
@@ -39,7 +48,9 @@ Leaves {bound = bound} was t op state (Err Fault) = (ready_in state ≡ None) ×
 -- A call on a mount whose words stand for tree t.
 pub record Does {D T : Type 0} {bound : _} (was : Volume D) (t : Tree) (op : Op) (state : Option (State D bound)) (result : Result T FsError) : Type 0 where
   pub answer : IsAnswer (bound.words was.dev) t op result
+  pub told : IsTold (inode_count (bound.words was.dev)) t op result
   pub leaves : Leaves was t op state result
+  pub later : bound.faults was.dev ≤ faults_in state
   -- whatever a crash may leave at a moment of the call lands on the tree before it or after it, and so do the words as they read
   pub moments : IsSomeAnd (device_in state) (λ dev. LeavesOnly (bound.told was.dev) (bound.told dev) (λ image. Lands image t ⊎ Lands image (after t op)))
   pub reads : IsSomeAnd (device_in state) (λ dev. Lands (bound.words dev) t ⊎ Lands (bound.words dev) (after t op))

@@ -93,3 +93,7 @@ IsEntryWord img dir f offset number word =
 -- no pair of the image's open record names a word of a page under a live file
 abbrev pub SparesReplay : List ℕ → Type 0
 SparesReplay image = (word : ℕ) → Named (open_pairs image) word → IsFilePage (settled image) (word / 512) → ⊥
+
+-- object i has the partition that it had
+abbrev pub KeepsPart : List ℕ → List ℕ → ℕ → Type 0
+KeepsPart old new i = ((inode (view new) i).base ≡ (inode (view old) i).base) × ((inode (view new) i).level ≡ (inode (view old) i).level)

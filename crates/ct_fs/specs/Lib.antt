@@ -6,6 +6,7 @@ pub mod Looks
 pub mod Made
 pub mod Makes
 pub mod Mounted
+pub mod Placed
 pub mod Plans
 pub mod Rooms
 pub mod Seen

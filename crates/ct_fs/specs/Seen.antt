@@ -1,5 +1,5 @@
 -- What callers see of a file system.
-use Rattle.std.specs.Prelude.{Option, Some, None, IsSome}
+use Rattle.std.specs.Prelude.{ℕ, Option, Some, None, IsSome}
 use Rattle.std.proofs.Common.{true≢false, sym}
 use Rattle.ct_fs.specs.declared.mount.Fs.{Fs}
 use Rattle.ct_fs.specs.Mounted.{Volume}
@@ -32,3 +32,9 @@ dev_in (Some (Dead failed)) here = failed.dev
 -- the device, whether or not a call met a fault
 abbrev pub fs_dev : {D : Type 0} {bound : _} → Fs D bound → D
 fs_dev fs = dev_in fs.state fs.here
+
+-- how many faults its device had
+abbrev pub faults_in : {D : Type 0} {bound : _} → Option (State D bound) → ℕ
+faults_in None = 0
+faults_in {bound = bound} (Some (Ready mounted)) = bound.faults mounted.dev
+faults_in {bound = bound} (Some (Dead failed)) = bound.faults failed.dev

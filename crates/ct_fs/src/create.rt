@@ -1,10 +1,12 @@
 // The calls that make an object.
-ghost use Rattle.std.specs.Prelude.{◌≡◌, ◌≢◌, ◌⊎◌, ◌↔◌, ℕ, List, Some, Err, IsNone, IfErr, IfOk, OnOk};
+ghost use Rattle.std.specs.Prelude.{◌≡◌, ◌≢◌, ◌⊎◌, ◌↔◌, ℕ, ◌+◌, ◌≤◌, List, length, Some, Err, IsNone, IsSomeAnd, IfErr, IfOk, OnOk};
 ghost use Rattle.ct_base.specs.Causes.{HasCause};
+ghost use Rattle.ct_base.specs.Free.{HasFreePages};
 ghost use Rattle.ct_base.specs.Inode.{inode as inode_at};
 ghost use Rattle.ct_base.specs.Named.{Leads};
 ghost use Rattle.ct_base.specs.Settled.{HasPages};
-ghost use Rattle.ct_base.specs.View.{view};
+ghost use Rattle.ct_base.specs.View.{inode_count, view};
+ghost use Rattle.ct_base.specs.Wants.{missing};
 ghost use Rattle.ct_frames.specs.Agrees.{Agrees};
 ghost use Rattle.ct_pm.specs.Device.{LeavesOnly, NothingPending};
 ghost use Rattle.ct_record.specs.declared.idle.Broken.{Broken};
@@ -16,8 +18,9 @@ ghost use Rattle.ct_fs.specs.Calls.{Does, StandsFor};
 ghost use Rattle.ct_fs.specs.Entry.{IsFreeInode, IsSpot, after_enter, with_node};
 ghost use Rattle.ct_fs.specs.Makes.{HasNode, IsFreshName, kind_of, make_op};
 ghost use Rattle.ct_fs.specs.Mounted.{IsAtRest, Volume};
-ghost use Rattle.ct_fs.specs.Plans.{IsEntryPlan};
-ghost use Rattle.ct_fs.specs.Seen.{mounts};
+ghost use Rattle.ct_fs.specs.Placed.{HasSlot, IsMoved, Places};
+ghost use Rattle.ct_fs.specs.Plans.{IsEntryPlan, plan_for};
+ghost use Rattle.ct_fs.specs.Seen.{mounts, ready_in};
 ghost use Rattle.ct_fs.specs.Spots.{IsNewName, IsNextSlot};
 
 use crate::enter::enter;
@@ -63,6 +66,7 @@ fn prepare<'p, D: Pm>(
     ensures answer { (kind : Kind) (t : Tree) → StandsFor (D.words dev.now) t → IsPrepared (D.words dev.now) t (make_op kind path.now) result }
     ensures spot { IfOk result (λ found. IsNewName (D.words dev.now) path.now found.0.dir found.0.inode found.0.offset found.0.name.now) }
     ensures plan { IfOk result (λ found. IsEntryPlan (D.words dev.now) frames.now found.0.inode found.0.offset found.1) }
+    ensures counted { OnOk result ((count : ℕ) → HasFreePages (D.words dev.now) count → count ≡ length frames.now.free) }
 {
     let spot = match find_spot(dev, path) {
         Ok(spot) => spot,
@@ -90,8 +94,12 @@ fn make_room<D: Pm>(
     ensures spot { OnOk result ((name : List ℕ) → IsFreshName (D.words dev) spot.now.dir name
         → IsSpot (D.words (after_enter result)) spot.now.dir (inode_at (view (D.words (after_enter result))) spot.now.dir) spot.now.offset name) }
     ensures unused { OnOk result (IsFreeInode (D.words (after_enter result)) plan.number) }
+    ensures moved { OnOk result ((level : ℕ) → plan.growth ≡ Some level → IsMoved (D.words dev) (D.words (after_enter result)) spot.now.dir level) }
+    ensures taken { OnOk result (length frames.old.free
+        ≤ length frames.new.free + missing (D.words dev) (plan_for (D.words dev) spot.now.inode spot.now.offset plan.number).wants) }
     ensures rest { OnOk result (IsAtRest (D.words (after_enter result))) }
     ensures files { OnOk result (files (D.words (after_enter result)) ≡ files (D.words dev)) }
+    ensures counted { OnOk result (inode_count (D.words (after_enter result)) ≡ inode_count (D.words dev)) }
     ensures agrees { OnOk result (Agrees (D.words (after_enter result)) frames.new) }
     ensures settled { OnOk result (NothingPending (D.told (after_enter result))) }
 
@@ -132,7 +140,12 @@ fn carry_out<D: Pm>(
     requires plan { IsEntryPlan (D.words dev) frames.old spot.now.inode spot.now.offset plan }
     requires sort { (kind ≡ 1) ⊎ (kind ≡ 2) }
 
+    ensures slot { OnOk result (HasSlot (files (D.words (after_enter result)) spot.now.dir) spot.now.offset plan.number spot.now.name.now) }
+    ensures moved { OnOk result ((level : ℕ) → plan.growth ≡ Some level → IsMoved (D.words dev) (D.words (after_enter result)) spot.now.dir level) }
+    ensures taken { OnOk result (length frames.old.free
+        ≤ length frames.new.free + missing (D.words dev) (plan_for (D.words dev) spot.now.inode spot.now.offset plan.number).wants) }
     ensures node { OnOk result (HasNode (D.words dev) (D.words (after_enter result)) spot.now.dir spot.now.name.now kind) }
+    ensures counted { OnOk result (inode_count (D.words (after_enter result)) ≡ inode_count (D.words dev)) }
     ensures rest { OnOk result (IsAtRest (D.words (after_enter result))) }
     ensures agrees { OnOk result (Agrees (D.words (after_enter result)) frames.new) }
     ensures settled { OnOk result (NothingPending (D.told (after_enter result))) }
@@ -164,6 +177,7 @@ fn carry_out<D: Pm>(
 // Makes an empty object of a kind at a path.
 fn make_in<D: Pm>(mounted: Mounted<D>, path: &[u8], kind: Kind) -> (State<D>, Result<(), FsError>)
     ensures does { (t : Tree) → StandsFor (D.words mounted.dev) t → Does mounted t (make_op kind path.now) (Some result.0) result.1 }
+    ensures places { OnOk result.1 (IsSomeAnd (ready_in (Some result.0)) (λ now. Places (D.words mounted.dev) (D.words now.dev) (make_op kind path.now) path.now)) }
     ensures alive { result.1 ≢ Err FsError.Dead }
 {
     let Mounted { dev, mut frames } = mounted;
@@ -177,7 +191,11 @@ fn make_in<D: Pm>(mounted: Mounted<D>, path: &[u8], kind: Kind) -> (State<D>, Re
         }
     };
     match carry_out(dev, &mut frames, &spot, plan, kind.number()) {
-        Ok(dev) => (State::Ready(Mounted { dev, frames }), Ok(())),
+        Ok(dev) => {
+            // Not the count is wanted, but what its contract says: the free pages are a list that can be counted.
+            let _ = frames.free();
+            (State::Ready(Mounted { dev, frames }), Ok(()))
+        }
         Err(broken) => {
             let Broken { dev } = broken;
             (State::Dead(Failed { dev }), Err(FsError::Fault))
@@ -192,6 +210,8 @@ impl<D: Pm> Fs<D> {
         ensures still { IsNone (mounts self.old) → self.new.state ≡ self.old.state }
         ensures does { (was : Volume D) → mounts self.old ≡ Some was → (t : Tree) → StandsFor (D.words was.dev) t
             → Does was t (make_op kind path.now) self.new.state result }
+        ensures places { (was : Volume D) → mounts self.old ≡ Some was
+            → OnOk result (IsSomeAnd (ready_in self.new.state) (λ now. Places (D.words was.dev) (D.words now.dev) (make_op kind path.now) path.now)) }
     {
         match self.state.take() {
             Some(State::Ready(mounted)) => {
@@ -219,6 +239,10 @@ impl<D: Pm> Fs<D> {
         ensures still { IsNone (mounts self.old) → self.new.state ≡ self.old.state }
         ensures does { (was : Volume D) → mounts self.old ≡ Some was → (t : Tree) → StandsFor (D.words was.dev) t
             → Does was t (create_call path.now) self.new.state result }
+        // After Ok the object has the lowest free inode and the first empty slot, a directory that grew has moved to the first
+        // free partition of its level with its pages, and no page more than needed was taken.
+        ensures places { (was : Volume D) → mounts self.old ≡ Some was
+            → OnOk result (IsSomeAnd (ready_in self.new.state) (λ now. Places (D.words was.dev) (D.words now.dev) (create_call path.now) path.now)) }
     {
         self.make(path, Kind::File)
     }
@@ -233,6 +257,10 @@ impl<D: Pm> Fs<D> {
         ensures still { IsNone (mounts self.old) → self.new.state ≡ self.old.state }
         ensures does { (was : Volume D) → mounts self.old ≡ Some was → (t : Tree) → StandsFor (D.words was.dev) t
             → Does was t (mkdir_call path.now) self.new.state result }
+        // After Ok the object has the lowest free inode and the first empty slot, a directory that grew has moved to the first
+        // free partition of its level with its pages, and no page more than needed was taken.
+        ensures places { (was : Volume D) → mounts self.old ≡ Some was
+            → OnOk result (IsSomeAnd (ready_in self.new.state) (λ now. Places (D.words was.dev) (D.words now.dev) (mkdir_call path.now) path.now)) }
     {
         self.make(path, Kind::Directory)
     }

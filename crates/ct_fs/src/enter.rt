@@ -13,7 +13,8 @@ ghost use Rattle.ct_tree.specs.Tree.{Tree};
 ghost use Rattle.ct_fs.specs.Calls.{StandsFor};
 ghost use Rattle.ct_fs.specs.Mounted.{IsAtRest};
 ghost use Rattle.ct_grow.specs.Moments.{SparesFiles};
-ghost use Rattle.ct_fs.specs.Entry.{HasEntry, IsEntryWord, IsFreeInode, IsSizeWord, IsSpot, RaisesSize, SparesReplay, WritesEntry, after_enter, with_node};
+ghost use Rattle.ct_fs.specs.Entry.{HasEntry, KeepsPart, IsEntryWord, IsFreeInode, IsSizeWord, IsSpot, RaisesSize, SparesReplay, WritesEntry, after_enter, with_node};
+ghost use Rattle.ct_fs.specs.Placed.{HasSlot};
 
 use crate::spot::Spot;
 use ct_base::Inode;
@@ -112,6 +113,8 @@ pub(crate) fn enter<D: Pm>(dev: D, spot: &Spot<'_>, number: u64, kind: u64) -> R
 
     // After Ok the words stand for the tree with the object, and no table changed.
     ensures entry { OnOk result (HasEntry (D.words dev) (D.words (after_enter result)) spot.now.dir spot.now.name.now kind) }
+    ensures slot { OnOk result (HasSlot (files (D.words (after_enter result)) spot.now.dir) spot.now.offset number spot.now.name.now) }
+    ensures part { OnOk result (KeepsPart (D.words dev) (D.words (after_enter result)) spot.now.dir) }
     ensures settled { OnOk result (NothingPending (D.told (after_enter result))) }
 
     // A crash at any moment lands on the tree without the object, or on the one with it, and so do the words as they read.

@@ -4,6 +4,8 @@ ghost use Rattle.ct_base.specs.Causes.{HasCause, Rose};
 ghost use Rattle.ct_base.specs.Format.{IsFormatted};
 ghost use Rattle.ct_pm.specs.Device.{LeavesOnly, MakesOnly, NothingPending, SameOff, with_steps};
 ghost use Rattle.ct_frames.specs.Free.{rising};
+ghost use Rattle.ct_tree.specs.Tree.{Dir, none};
+ghost use Rattle.ct_fs.specs.Calls.{Keeps};
 ghost use Rattle.ct_fs.specs.Made.{IsMissized, IsNew, dev_after, image_dev, why_not};
 ghost use Rattle.ct_fs.specs.Seen.{fs_dev, mounts};
 ghost use Rattle.ct_pm.specs.declared.step.Step.TheVariants.{Store, Flush};
@@ -185,6 +187,7 @@ pub fn format<D: Pm>(alloc: Global, dev: D, inodes: u64) -> Result<Fs<D>, NoMoun
 
     ensures made { IfOk result (λ fs. IsSomeAnd (mounts fs) (λ now. IsNew (D.words now.dev) now.frames (D.page_count dev) inodes)) }
     ensures settled { IfOk result (λ fs. NothingPending (D.told (fs_dev fs))) }
+    ensures keeps { IfOk result (λ fs. Keeps inodes fs.state (Dir none)) }
 
     ensures size { (rule : ℕ) → (why_not result ≡ Some (Why.Damage rule)) ↔ ((rule ≡ 0) × IsMissized (D.page_count dev)) }
     ensures untouched { IfErr result (λ no_mount. no_mount.why ≢ Why.Fault → no_mount.dev ≡ dev) }

@@ -1,11 +1,11 @@
 // The pages that a call asks for are made before its record.
-ghost use Rattle.std.specs.Prelude.{◌≡◌, ◌≢◌, ℕ, ◌/◌, ◌≤◌, [], ◌∷◌, length, OnOk};
+ghost use Rattle.std.specs.Prelude.{◌≡◌, ◌≢◌, ℕ, ◌+◌, ◌/◌, ◌≤◌, [], ◌∷◌, false, length, OnOk};
 ghost use Rattle.ct_base.specs.Causes.{HasCause};
 ghost use Rattle.ct_base.specs.Plan.{page_want};
 ghost use Rattle.ct_base.specs.State.{SameState};
 ghost use Rattle.ct_base.specs.View.{view, inode_count};
 ghost use Rattle.ct_base.specs.Walk.{page_at};
-ghost use Rattle.ct_base.specs.Wants.{missing};
+ghost use Rattle.ct_base.specs.Wants.{is_wanted, missing};
 ghost use Rattle.ct_frames.specs.Agrees.{Agrees};
 ghost use Rattle.ct_pm.specs.Device.{LeavesOnly, NothingPending};
 ghost use Rattle.ct_state.specs.Alike.{Alike};
@@ -30,6 +30,8 @@ pub(crate) fn make_pages<D: Pm>(
     requires room { missing (D.words dev.old) (page_want first ∷ page_want second ∷ []) ≤ length frames.old.free }
     ensures first { OnOk result (page_at (D.words dev.new) 4 (first / 4096) ≢ 0) }
     ensures second { OnOk result (page_at (D.words dev.new) 4 (second / 4096) ≢ 0) }
+    ensures cells { (d x : ℕ) → d ≤ 4 → is_wanted (page_want first ∷ page_want second ∷ []) d x ≡ false → page_at (D.words dev.new) d x ≡ page_at (D.words dev.old) d x }
+    ensures taken { OnOk result (length frames.new.free + missing (D.words dev.old) (page_want first ∷ page_want second ∷ []) ≡ length frames.old.free) }
     ensures rest { IsAtRest (D.words dev.new) }
     ensures alike { Alike (D.words dev.old) (D.words dev.new) }
     ensures agrees { OnOk result (Agrees (D.words dev.new) frames.new) }

@@ -1,5 +1,6 @@
 // What a new entry takes beside its slot: an inode, and growth of the directory where it is full.
 ghost use Rattle.std.specs.Prelude.{◌≡◌, ◌≢◌, ◌⊎◌, ℕ, ◌+◌, ◌*◌, ◌^◌, ◌<◌, ◌≤◌, ◌++◌, List, [], length, Some, IfOk, IfErr, OnOk};
+ghost use Rattle.ct_base.specs.Free.{HasFreePages};
 ghost use Rattle.ct_base.specs.Inode.{free_parts, live_parts};
 ghost use Rattle.ct_base.specs.Plan.{page_want};
 ghost use Rattle.ct_base.specs.Rules.{IsPlaced};
@@ -139,6 +140,7 @@ pub(crate) fn plan_entry<D: Pm>(
     requires slot { IsNextSlot (D.words dev.now) spot.now.dir spot.now.inode spot.now.offset }
     ensures refused { IfErr result (λ r. (op : Op) → MakesIn (D.words dev.now) spot.now.dir op → ForSpace (D.words dev.now) op r) }
     ensures planned { IfOk result (λ plan. IsEntryPlan (D.words dev.now) frames.now spot.now.inode spot.now.offset plan) }
+    ensures counted { OnOk result ((count : ℕ) → HasFreePages (D.words dev.now) count → count ≡ length frames.now.free) }
     ensures space { OnOk result ((op : Op) → MakesIn (D.words dev.now) spot.now.dir op → HasSpace (D.words dev.now) op) }
 {
     let number = match first_free(dev, dev.load(INODES)) {

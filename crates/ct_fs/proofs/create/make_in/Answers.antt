@@ -1,4 +1,4 @@
-use Rattle.std.proofs.Common.{◌≡◌, ◌⊎◌, inl, refl, subst}
+use Rattle.std.proofs.Common.{◌≡◌, ◌⊎◌, inl, refl, subst, arith}
 use Rattle.ct_pm.specs.Device.{LeavesOnly}
 use Rattle.ct_pm.proofs.Told.{started}
 use Rattle.ct_record.proofs.Moments.{each_settled}
@@ -8,8 +8,12 @@ use Rattle.ct_tree.specs.Resolve.{parent}
 use Rattle.ct_fs.specs.Calls.{StandsFor, after}
 use Rattle.ct_fs.specs.Entry.{with_node}
 use Rattle.ct_fs.specs.Makes.{make_op}
-use Rattle.ct_fs.proofs.Named.{after_make, does_over}
+use Rattle.ct_fs.proofs.Named.{after_make, does_over, makes_in}
+use Rattle.ct_fs.proofs.Placing.{places}
+use Rattle.ct_fs.proofs.Vacant.{free_once}
+use Rattle.ct_fs.specs.Placed.{Places}
 use Rattle.ct_fs.proofs.Resting.{mounted_rest, rest_lands}
+use Rattle.ct_fs.proofs.Spaces.{told_refused, told_started}
 use Rattle.ct_fs.proofs.create.make_in.Goals as goal
 
 pub returns-in-Err-clause-does : goal.returns-in-Err-clause-does
@@ -20,7 +24,9 @@ returns-in-Err-clause-does g c t = does_over t (make_op c.args.kind c.args.path.
     let lands = rest_lands rest st in
     record {
       answer = c.in-Err.ensures.answer c.args.kind t st;
+      told = told_refused rest st c.args.kind c.args.path.now c.in-Err.refusal (c.in-Err.ensures.answer c.args.kind t st);
       leaves = refl;
+      later = omega arith;
       moments =
           started (g.D.Pm.told dev) (λ image. Lands image t ⊎ Lands image (after t op))
           (each_settled (g.D.Pm.told dev) (g.D.Pm.words dev) (λ image. Lands image t ⊎ Lands image (after t op)) (g.met.D.Pm.replays dev) c.mounted.invariant.settled (inl lands));
@@ -33,11 +39,19 @@ returns-in-Ok-carry_out-clause-does g c t = does_over t (make_op c.args.kind c.a
     let can = c.in-Ok.ensures.answer c.args.kind t st in
     let spot = c.in-Ok.ensures.spot in
     let words = g.D.Pm.words c.in-Ok-carry_out.dev in
+    let rest = mounted_rest c.mounted.invariant in
     let is : with_node t (parent (names path)) c.in-Ok.found.0.name.now c.number.result ≡ after t (make_op c.args.kind path) =
     after_make c.args.kind t path can.allowed spot.last spot.lawful c.number.ensures in
     record {
       answer = can;
-      leaves = (subst (λ u. StandsFor words u) is (c.in-Ok-carry_out.ensures.node (parent (names path)) t st spot.parent), c.in-Ok-carry_out.ensures.settled);
+      told = told_started rest st c.args.kind path can;
+      leaves = record {
+        rest = c.in-Ok-carry_out.ensures.rest;
+        stands = subst (λ u. StandsFor words u) is (c.in-Ok-carry_out.ensures.node (parent (names path)) t st spot.parent);
+        lasts = c.in-Ok-carry_out.ensures.settled;
+        counted = c.in-Ok-carry_out.ensures.counted;
+      };
+      later = c.in-Ok-carry_out.ensures.cause.later;
       moments =
           subst (λ u. LeavesOnly (g.D.Pm.told c.mounted.inside.dev) (g.D.Pm.told c.in-Ok-carry_out.dev) (λ image. Lands image t ⊎ Lands image u)) is
           (c.in-Ok-carry_out.ensures.moments (parent (names path)) t st spot.parent);
@@ -50,13 +64,29 @@ returns-in-Err-carry_out-clause-does g c t = does_over t (make_op c.args.kind c.
     let can = c.in-Ok.ensures.answer c.args.kind t st in
     let spot = c.in-Ok.ensures.spot in
     let words = g.D.Pm.words c.in-Err-carry_out.broken.dev in
+    let rest = mounted_rest c.mounted.invariant in
     let is : with_node t (parent (names path)) c.in-Ok.found.0.name.now c.number.result ≡ after t (make_op c.args.kind path) =
     after_make c.args.kind t path can.allowed spot.last spot.lawful c.number.ensures in
     record {
       answer = can;
+      told = tt;
+      later = c.in-Err-carry_out.ensures.cause.later;
       leaves = (refl, c.in-Err-carry_out.ensures.cause.failed);
       moments =
           subst (λ u. LeavesOnly (g.D.Pm.told c.mounted.inside.dev) (g.D.Pm.told c.in-Err-carry_out.broken.dev) (λ image. Lands image t ⊎ Lands image u)) is
           (c.in-Err-carry_out.ensures.moments (parent (names path)) t st spot.parent);
       reads = subst (λ u. Lands words t ⊎ Lands words u) is (c.in-Err-carry_out.ensures.reads (parent (names path)) t st spot.parent);
     })
+
+pub returns-in-Ok-carry_out-clause-places : goal.returns-in-Ok-carry_out-clause-places
+returns-in-Ok-carry_out-clause-places g c =
+    let path = c.args.path.now in
+    let old = g.D.Pm.words c.mounted.inside.dev in
+    let new = g.D.Pm.words c.in-Ok-carry_out.dev in
+    let spot = c.in-Ok.ensures.spot in
+    let op = make_op c.args.kind path in
+    let rest = mounted_rest c.mounted.invariant in
+    let counted = free_once new c.in-Ok-carry_out.ensures.rest.unstaged c.in-Ok-carry_out.ensures.agrees c.free.ensures.rising c.free.ensures.in_range in
+    subst (λ m. Places (g.D.Pm.words m.dev) new op path) c.mounted.view_is
+    (places new c.carry_out.new.frames rest spot.next c.in-Ok.ensures.plan op path (makes_in c.args.kind old path c.in-Ok.found.0.dir spot.parent) spot.parent c.in-Ok.found.0.name.now spot.last
+    c.in-Ok-carry_out.ensures.slot c.in-Ok-carry_out.ensures.moved c.in-Ok.ensures.counted counted c.in-Ok-carry_out.ensures.taken)

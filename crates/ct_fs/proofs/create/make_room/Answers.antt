@@ -1,7 +1,8 @@
-use Rattle.std.proofs.Common.{refl, arith}
+use Rattle.std.proofs.Common.{refl, ◌∙◌, arith}
 use Rattle.ct_pm.proofs.Told.{and_then, weaker}
 use Rattle.ct_tree.specs.Lands.{Lands}
-use Rattle.ct_fs.proofs.Making.{can_grow, inode_there, pages_owned, pages_room, place_after, same_stands, same_fresh, slot_low, spot_there}
+use Rattle.ct_fs.proofs.Making.{can_grow, gives_count, inode_there, pages_owned, pages_room, place_after, same_stands, same_fresh, slot_low, spot_there}
+use Rattle.ct_fs.proofs.Placing.{room_moved, room_taken}
 use Rattle.ct_fs.proofs.Resting.{alike_stands, rest_lands, same_lands}
 use Rattle.ct_fs.proofs.create.make_room.Goals as goal
 
@@ -56,3 +57,16 @@ returns-in-Err-make_pages-clause-moments g c t st =
 
 pub returns-in-Err-make_pages-clause-reads : goal.returns-in-Err-make_pages-clause-reads
 returns-in-Err-make_pages-clause-reads g c t st = rest_lands c.make_pages.ensures.rest (alike_stands c.make_pages.ensures.alike (same_stands c.in-Ok.ensures.files st))
+
+pub returns-in-Ok-make_pages-clause-counted : goal.returns-in-Ok-make_pages-clause-counted
+returns-in-Ok-make_pages-clause-counted g c = c.make_pages.ensures.alike.inodes ∙ gives_count (g.D.Pm.words c.args.dev) (g.D.Pm.words c.in-Ok.dev) c.args.frames.now c.grow.new.frames c.args.spot.now.dir c.args.plan.growth c.in-Ok.ensures.gives
+
+pub returns-in-Ok-make_pages-clause-moved : goal.returns-in-Ok-make_pages-clause-moved
+returns-in-Ok-make_pages-clause-moved g c =
+    room_moved c.requires.rest c.requires.next c.requires.plan (g.D.Pm.words c.in-Ok.dev) (g.D.Pm.words c.make_pages.new.dev) c.grow.new.frames c.in-Some.slot c.place.result c.get-inode.result c.get-inode.ensures c.in-Some.ensures.value c.place.ensures
+    c.in-Ok.ensures.gives c.make_pages.ensures.alike c.make_pages.ensures.cells
+
+pub returns-in-Ok-make_pages-clause-taken : goal.returns-in-Ok-make_pages-clause-taken
+returns-in-Ok-make_pages-clause-taken g c =
+    room_taken c.requires.rest c.requires.next c.requires.plan (g.D.Pm.words c.in-Ok.dev) (g.D.Pm.words c.make_pages.new.dev) c.grow.new.frames c.in-Some.slot c.place.result c.get-inode.result c.get-inode.ensures c.in-Some.ensures.value c.place.ensures
+    c.make_pages.new.frames c.in-Ok.ensures.gives c.in-Ok-make_pages.ensures.taken

@@ -4,10 +4,11 @@ use Rattle.ct_pm.specs.Device.{LeavesOnly, MakesOnly, StoresOver}
 use Rattle.ct_record.specs.Record.{InRecord, KeepsHead}
 use Rattle.ct_record.specs.Seen.{pairs_of, told_under, words_under}
 use Rattle.ct_record.proofs.Lawful.{few_more, shut_few}
-use Rattle.ct_tree.specs.Lands.{Lands}
+use Rattle.ct_tree.specs.Lands.{Lands, files}
+use Rattle.ct_fs.specs.Placed.{HasSlot}
 use Rattle.ct_grow.specs.Moments.{SparesFiles}
-use Rattle.ct_fs.specs.Entry.{HasEntry, IsEntryWord, SparesReplay, with_node}
-use Rattle.ct_fs.proofs.EntryRecord.{IsAsked, GoesOn, HasPairs, goes_on, has_pairs, dropped_moments, dropped_reads, dropped_lawful, dropped_keeps, dropped_made, dropped_spares, dropped_replays, done_entry, done_moments, done_reads, done_lawful, done_keeps, done_made, done_spares, done_replays}
+use Rattle.ct_fs.specs.Entry.{HasEntry, KeepsPart, IsEntryWord, SparesReplay, with_node}
+use Rattle.ct_fs.proofs.EntryRecord.{IsAsked, GoesOn, HasPairs, goes_on, has_pairs, dropped_moments, dropped_reads, dropped_lawful, dropped_keeps, dropped_made, dropped_spares, dropped_replays, done_entry, done_part, done_slot, done_moments, done_reads, done_lawful, done_keeps, done_made, done_spares, done_replays}
 use Rattle.ct_fs.proofs.enter.enter.Given.{Over}
 use Rattle.ct_fs.proofs.enter.enter.Goals as goal
 
@@ -62,6 +63,16 @@ pub returns-in-Ok-complete-clause-entry : goal.returns-in-Ok-complete-clause-ent
 returns-in-Ok-complete-clause-entry g c =
     subst (λ d. HasEntry (g.D.Pm.words c.args.dev) (g.D.Pm.words d) c.args.spot.now.dir c.args.spot.now.name.now c.args.kind) (sym c.into_dev.ensures.dev)
     (done_entry (asked g c) (drafting g c) (paired g c) (g.D.Pm.words c.in-Ok-complete.idle.dev) c.in-Ok-complete.ensures.words c.in-Ok-complete.ensures.shut)
+
+pub returns-in-Ok-complete-clause-slot : goal.returns-in-Ok-complete-clause-slot
+returns-in-Ok-complete-clause-slot g c =
+    subst (λ d. HasSlot (files (g.D.Pm.words d) c.args.spot.now.dir) c.args.spot.now.offset c.args.number c.args.spot.now.name.now) (sym c.into_dev.ensures.dev)
+    (done_slot (asked g c) (drafting g c) (paired g c) (g.D.Pm.words c.in-Ok-complete.idle.dev) c.in-Ok-complete.ensures.words)
+
+pub returns-in-Ok-complete-clause-part : goal.returns-in-Ok-complete-clause-part
+returns-in-Ok-complete-clause-part g c =
+    subst (λ d. KeepsPart (g.D.Pm.words c.args.dev) (g.D.Pm.words d) c.args.spot.now.dir) (sym c.into_dev.ensures.dev)
+    (done_part (asked g c) (drafting g c) (paired g c) (g.D.Pm.words c.in-Ok-complete.idle.dev) c.in-Ok-complete.ensures.words)
 
 pub returns-in-Ok-complete-clause-moments : goal.returns-in-Ok-complete-clause-moments
 returns-in-Ok-complete-clause-moments g c xs t s leads =

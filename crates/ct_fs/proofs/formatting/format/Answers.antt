@@ -2,7 +2,7 @@ use Rattle.std.proofs.Common.{subst, sym}
 use Rattle.ct_fs.specs.Formatting.{IsFormatImage}
 use Rattle.ct_pm.specs.Device.{LeavesOnly}
 use Rattle.ct_fs.proofs.Moments.{any_moment}
-use Rattle.ct_fs.proofs.Ready.{ready_dev}
+use Rattle.ct_fs.proofs.Ready.{new_keeps, ready_dev}
 use Rattle.ct_fs.proofs.formatting.format.Goals as goal
 
 pub returns-in-Ok-clause-any_moment : goal.returns-in-Ok-clause-any_moment
@@ -15,3 +15,6 @@ returns-in-Ok-clause-any_moment g c =
 pub returns-in-Err-clause-any_moment : goal.returns-in-Err-clause-any_moment
 returns-in-Err-clause-any_moment g c =
     any_moment (g.D.Pm.words c.args.dev) (g.D.Pm.told c.args.dev) (g.D.Pm.told c.in-Err.no_mount.dev) c.in-Err.ensures.moments
+
+pub returns-in-Ok-clause-keeps : goal.returns-in-Ok-clause-keeps
+returns-in-Ok-clause-keeps g c = new_keeps c.of.result c.in-Ok.made c.of.ensures c.in-Ok.ensures.made c.in-Ok.ensures.settled

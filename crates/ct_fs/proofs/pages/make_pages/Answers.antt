@@ -1,4 +1,4 @@
-use Rattle.ct_fs.proofs.Paged.{paged_rest, paged_alike, paged_moments, paged_first, paged_second}
+use Rattle.ct_fs.proofs.Paged.{paged_cells, paged_taken, paged_rest, paged_alike, paged_moments, paged_first, paged_second}
 use Rattle.ct_fs.proofs.pages.make_pages.Goals as goal
 
 pub returns-in_err-ensure_all-clause-rest : goal.returns-in_err-ensure_all-clause-rest
@@ -104,3 +104,42 @@ returns-clause-moments g c =
       owned = c.requires.owned;
       extends = c.ensure_all.ensures.extends;
     })
+
+pub returns-in_err-ensure_all-clause-cells : goal.returns-in_err-ensure_all-clause-cells
+returns-in_err-ensure_all-clause-cells g c =
+    paged_cells (record {
+      one = c.page_want.result;
+      two = c.page_want-2.result;
+      is_first = c.page_want.ensures;
+      is_second = c.page_want-2.ensures;
+      rest = c.requires.rest;
+      settled = c.requires.settled;
+      owned = c.requires.owned;
+      extends = c.ensure_all.ensures.extends;
+    })
+
+pub returns-clause-cells : goal.returns-clause-cells
+returns-clause-cells g c =
+    paged_cells (record {
+      one = c.page_want.result;
+      two = c.page_want-2.result;
+      is_first = c.page_want.ensures;
+      is_second = c.page_want-2.ensures;
+      rest = c.requires.rest;
+      settled = c.requires.settled;
+      owned = c.requires.owned;
+      extends = c.ensure_all.ensures.extends;
+    })
+
+pub returns-clause-taken : goal.returns-clause-taken
+returns-clause-taken g c =
+    paged_taken (record {
+      one = c.page_want.result;
+      two = c.page_want-2.result;
+      is_first = c.page_want.ensures;
+      is_second = c.page_want-2.ensures;
+      rest = c.requires.rest;
+      settled = c.requires.settled;
+      owned = c.requires.owned;
+      extends = c.ensure_all.ensures.extends;
+    }) c.in_ok-ensure_all.ensures.taken

@@ -51,3 +51,6 @@ returns-clause-space g c = λ op makes.
     let some : (level : ℕ) → slot_growth f o ≡ Some level → free_parts (live_parts (view w) (inode_count w)) level ≢ [] = λ level e. c.in-Ok.ensures.some level (c.growth_for-growth.ensures ∙ e) in
     let once = free_once w c.requires.rest.unstaged c.requires.agrees c.free-free.ensures.rising c.free-free.ensures.in_range in
     has_space c.requires.rest c.requires.slot first some op (length c.args.frames.now.free) makes once (omega (arith, c.in-Ok.ensures.need, c.if-free-need.false, c.free-free.ensures.count))
+
+pub returns-clause-counted : goal.returns-clause-counted
+returns-clause-counted g c = free_once (g.D.Pm.words c.args.dev.now) c.requires.rest.unstaged c.requires.agrees c.free-free.ensures.rising c.free-free.ensures.in_range

@@ -1,40 +1,29 @@
 -- A script: its lines, and the item of each.
-use Rattle.std.specs.Prelude.{ℕ, Bool, not, ◌&&◌, ◌==◌, nat_lt, nat_le, if◌then◌else◌, List, [], ◌∷◌, length, drop, codes}
-use Rattle.std.specs.List.{list_all, flat_map, starts_with}
-use Rattle.std.specs.Prelude.{nat_eq}
-use Rattle.ct_base.specs.Split.{parts_at}
-use Rattle.ct_tree.specs.Step.{create}
+use Rattle.std.specs.Prelude.{ℕ, Bool, true, false, if◌then◌else◌, List, Some, None}
+use Rattle.std.specs.List.{flat_map}
+use Rattle.std.specs.declared.option.Option.{Option}
 use Rattle.ct_tree.specs.Runs.{Item, call, bad}
+use Rattle.ct_tree.specs.Step.{Op, create, mkdir, stat, list, locate}
+use Rattle.ct_script.specs.Grammar.{chopped, call_of}
+use Rattle.ct_script.specs.Script.{items_at, lines}
 
--- what stands between the bytes 10; the last may be empty
-abbrev pub lines : List ℕ → List (List ℕ)
-lines script = parts_at 10 script
+-- whether the file system has the call yet
+abbrev pub is_built : Op → Bool
+is_built (create path) = true
+is_built (mkdir path) = true
+is_built (stat path) = true
+is_built (list path) = true
+is_built (locate path) = true
+is_built op = false
 
--- a line without one byte 13 at its end
-abbrev pub chopped : List ℕ → List ℕ
-chopped [] = []
-chopped (x ∷ []) = if x == 13 then [] else x ∷ []
-chopped (x ∷ y ∷ ys) = x ∷ chopped (y ∷ ys)
+-- a line that is no call, or one that is not built, is a bad line
+abbrev pub item_of : Option Op → Item
+item_of None = bad
+item_of (Some op) = if is_built op then call op else bad
 
--- whether it is create and one space
-abbrev pub is_create : List ℕ → Bool
-is_create line = starts_with nat_eq line (codes "create ")
-
--- a word has a byte, and no space and no percent sign
-abbrev pub is_word : List ℕ → Bool
-is_word word = nat_lt 0 (length word) && list_all (λ b. not (b == 32) && not (b == 37)) word
-
--- the item of a line that is not empty, which had n bytes
-abbrev pub item_of : ℕ → List ℕ → Item
-item_of n line = if nat_le n 65536 && is_create line && is_word (drop 7 line) then call (create (drop 7 line)) else bad
-
--- an empty line has no item
-abbrev pub items_at : ℕ → List ℕ → List Item
-items_at n [] = []
-items_at n (x ∷ xs) = item_of n (x ∷ xs) ∷ []
-
+-- a line has an item unless it is empty, a byte 13 at its end aside
 abbrev pub items_of : List ℕ → List Item
-items_of line = items_at (length line) (chopped line)
+items_of line = items_at (chopped line) (item_of (call_of line))
 
 -- the items of a script
 abbrev pub items : List ℕ → List Item

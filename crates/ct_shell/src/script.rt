@@ -1,29 +1,26 @@
 // A script read whole, and served item by item.
-ghost use Rattle.std.specs.Prelude.{◌≡◌, ◌+◌, ◌*◌, ◌<◌, ◌≤◌, ℕ, [], length, take, MatchResult, IfOk, OnOk, OnErr};
-ghost use Rattle.std.specs.Io.KnownBytes.{Consumes, IsAtEnd, Appends};
+ghost use Rattle.std.specs.Prelude.{◌≡◌, ◌<◌, ◌≤◌, if◌then◌else◌, [], ◌∷◌, length, take, IfOk, Err};
+ghost use Rattle.std.specs.Io.KnownBytes.{Consumes, IsAtEnd};
 ghost use Rattle.ct_base.specs.Causes.{Rose};
-ghost use Rattle.ct_tree.specs.Tree.{Dir, none, nodes};
+ghost use Rattle.ct_fs.specs.Calls.{Keeps};
+ghost use Rattle.ct_script.specs.Grammar.{chopped};
+ghost use Rattle.ct_script.specs.Script.{items_at};
+ghost use Rattle.ct_tree.specs.Runs.{Item};
+ghost use Rattle.ct_tree.specs.Tree.{Tree};
 ghost use Rattle.ct_shell.specs.Script.{items, items_of};
-ghost use Rattle.ct_shell.specs.Served.{Served, Stopped, no_limit};
-ghost use Rattle.ct_shell.specs.Texts.{reply_line, IsFixed};
+ghost use Rattle.ct_shell.specs.Served.{Serves, mem_inodes};
 
-use crate::line::{Line, parse};
-use crate::reply::reply_line;
+use crate::call::{ServeEnd, send, serve_call};
 use ct_base::{Sink, Source, first_part};
-use ct_tree::{Call, PlainTree, Reply};
+use ct_fs::Fs;
+use ct_pm::Pm;
+use ct_script::{Quote, Scratch, Shown, parse};
 
 /// Why a script was not read whole.
 #[derive(Clone, Copy, Debug, PartialEq, Eq)]
 pub enum ReadEnd {
     Fault,
     TooLong,
-}
-
-/// Why a script was not served whole.
-#[derive(Clone, Copy, Debug, PartialEq, Eq)]
-pub enum ServeEnd {
-    Fault,
-    NoMemory,
 }
 
 /// Reads to the end of the input, which leaves a byte of the buffer free.
@@ -45,52 +42,56 @@ pub fn read_all<S: Source>(input: &mut S, buffer: &mut [u8]) -> Result<usize, Re
     Err(ReadEnd::TooLong)
 }
 
-/// Writes the line of a reply.
-fn send<O: Sink>(out: &mut O, reply: &Reply) -> Result<(), ServeEnd>
-    requires { IsFixed reply.now }
-    ensures ok { OnOk result (Appends (O.written out.old) (O.written out.new) (reply_line reply.now)) }
-    ensures err { OnErr result ((k : ℕ) × Appends (O.written out.old) (O.written out.new) (take k (reply_line reply.now))) }
-    ensures later { O.faults out.old ≤ O.faults out.new }
-    ensures fault { OnErr result (Rose (O.faults out.old) (O.faults out.new)) }
+// Whether a line is empty, one byte 13 at its end aside.
+fn is_empty(line: &[u8]) -> bool
+    ensures { (item : Item) → items_at (chopped line.now) item ≡ (if result then [] else item ∷ []) }
 {
-    match out.put(reply_line(reply)) {
-        Ok(()) => Ok(()),
-        Err(_) => Err(ServeEnd::Fault),
+    match line {
+        [] => true,
+        [byte] => *byte == b'\r',
+        _ => false,
     }
 }
 
-/// Serves one line.
-fn answer<O: Sink>(tree: &mut PlainTree, raw: &[u8], out: &mut O) -> Result<(), ServeEnd>
-    requires { nodes tree.old < no_limit }
-    ensures ok { OnOk result (Served no_limit tree.old tree.new (items_of raw.now) [] (O.written out.old) (O.written out.new)) }
-    ensures err { OnErr result (Stopped no_limit tree.old (items_of raw.now) (O.written out.old) (O.written out.new)) }
-    ensures grows { nodes tree.new ≤ nodes tree.old + 4098 }
+// Serves one line.
+fn answer<D: Pm, O: Sink>(
+    fs: &mut Fs<D>,
+    raw: &[u8],
+    scratch: &mut Scratch,
+    quote: &mut Quote,
+    out: &mut O,
+) -> Result<(), ServeEnd>
+    ensures serves { (t : Tree) → Keeps mem_inodes fs.old.state t
+        → Serves t (items_of raw.now) fs.old.state fs.new.state (O.written out.old) (O.written out.new) result }
     ensures later { O.faults out.old ≤ O.faults out.new }
-    ensures fault { result ≡ Err ServeEnd.Fault → Rose (O.faults out.old) (O.faults out.new) }
+    ensures fault { result ≡ Err ServeEnd.Output → Rose (O.faults out.old) (O.faults out.new) }
 {
-    match parse(raw) {
-        Line::Empty => Ok(()),
-        Line::Bad => send(out, &Reply::BadLine),
-        Line::Create(path) => match tree.call(&Call::Create { path }) {
-            Ok(reply) => send(out, &reply),
-            Err(_) => Err(ServeEnd::NoMemory),
-        },
+    if is_empty(raw) {
+        return Ok(());
+    }
+    match parse(raw, scratch) {
+        Some(call) => serve_call(fs, &call, quote, out),
+        None => send(out, Some(Shown::BadLine)),
     }
 }
 
 /// Serves a script, each reply before the next call.
-pub fn serve<O: Sink>(tree: &mut PlainTree, script: &[u8], out: &mut O) -> Result<(), ServeEnd>
-    requires fresh { tree.old ≡ Dir none }
-    requires short { length script.now ≤ 16777216 }
-    ensures ok { OnOk result (Served no_limit tree.old tree.new (items script.now) [] (O.written out.old) (O.written out.new)) }
-    ensures err { OnErr result (Stopped no_limit tree.old (items script.now) (O.written out.old) (O.written out.new)) }
+pub fn serve<D: Pm, O: Sink>(
+    fs: &mut Fs<D>,
+    script: &[u8],
+    scratch: &mut Scratch,
+    quote: &mut Quote,
+    out: &mut O,
+) -> Result<(), ServeEnd>
+    ensures serves { (t : Tree) → Keeps mem_inodes fs.old.state t
+        → Serves t (items script.now) fs.old.state fs.new.state (O.written out.old) (O.written out.new) result }
     ensures later { O.faults out.old ≤ O.faults out.new }
-    ensures fault { result ≡ Err ServeEnd.Fault → Rose (O.faults out.old) (O.faults out.new) }
+    ensures fault { result ≡ Err ServeEnd.Output → Rose (O.faults out.old) (O.faults out.new) }
 {
     let mut rest = script;
     'lines: loop {
         let (line, more) = first_part(rest, b'\n');
-        match answer(tree, line, out) {
+        match answer(fs, line, scratch, quote, out) {
             Ok(()) => {}
             Err(end) => return Err(end),
         }

@@ -15,10 +15,17 @@ const HELP: &str = "\
 usage: ctsh mem
        ctsh --help | --version
 
-mem   runs the script of standard input over an empty file tree in memory, and
-      writes one line to standard output for each line of the script.
+mem   makes a file system in memory, runs the script of standard input over it,
+      and writes one line to standard output for each line of the script that is
+      not empty.
 
-A line of a script is: create PATH
+Lines of a script:
+  create PATH   makes an empty file
+  mkdir PATH    makes an empty directory
+  stat PATH     tells the size of a file or the number of entries of a directory
+  list PATH     tells the names in a directory
+  where PATH    tells the address and the level of a file's partition
+Any other line is answered with 'error line'. In a path %XX is the byte XX.
 ";
 
 /// Why the words are not known.

@@ -1,38 +1,27 @@
-use Rattle.std.proofs.Common.{refl}
-use Rattle.ct_tree.specs.Runs.{bad, call}
-use Rattle.ct_tree.specs.Step.{create}
-use Rattle.ct_tree.specs.declared.call.Reply.TheVariants.{BadLine}
-use Rattle.ct_tree.proofs.Nodes.{create_nodes}
-use Rattle.ct_shell.specs.Served.{no_limit}
-use Rattle.ct_shell.proofs.Serves.{served_none, served_one, stopped_none, stopped_one, create_fixed, create_answers, on_ok, on_err}
+use Rattle.std.proofs.Common.{◌≡◌, ◌∙◌, ◌∷◌, [], List, Ok, Some, sym, ap, subst}
+use Rattle.std.specs.declared.option.Option.{Option}
+use Rattle.ct_tree.specs.Runs.{Item, bad}
+use Rattle.ct_tree.specs.Step.{Op}
+use Rattle.ct_script.specs.Grammar.{call_of}
+use Rattle.ct_script.specs.declared.reply.Shown.TheVariants.{BadLine}
+use Rattle.ct_shell.specs.Script.{item_of, items_of}
+use Rattle.ct_shell.specs.Served.{Serves}
+use Rattle.ct_shell.proofs.Calls.{bad_replies, served_empty, served_reply}
 use Rattle.ct_shell.proofs.script.answer.Goals as goal
 
-pub returns-in-Empty-clause-ok : goal.returns-in-Empty-clause-ok
-returns-in-Empty-clause-ok g c = served_none _ _ _ _ c.in-Empty.ensures
+pub returns-then-is_empty-clause-serves : goal.returns-then-is_empty-clause-serves
+returns-then-is_empty-clause-serves g c t keeps =
+    let state = c.args.fs.now.state in
+    let old = g.O.Sink.written c.args.out.now in
+    let none : items_of c.args.raw.now ≡ [] = c.if-is_empty.ensures (item_of (call_of c.args.raw.now)) in
+    subst (λ (items : List Item). Serves {T = Unit {0}} t items state state old old (Ok tt)) (sym none) (served_empty t state old tt keeps)
 
-pub returns-in-Bad-clause-ok : goal.returns-in-Bad-clause-ok
-returns-in-Bad-clause-ok g c = on_ok _ (served_one _ _ _ _ _ bad BadLine _ c.in-Bad.ensures (refl, refl)) c.send.ensures.ok
-
-pub returns-in-Bad-clause-err : goal.returns-in-Bad-clause-err
-returns-in-Bad-clause-err g c = on_err _ (stopped_one _ _ _ _ _ bad BadLine _ c.in-Bad.ensures (refl, refl)) c.send.ensures.err
-
-pub send-requires-in-Ok : goal.send-requires-in-Ok
-send-requires-in-Ok g c = create_fixed c.args.tree.now c.call.new.self c.in-Create.path.now c.in-Ok.reply c.in-Ok.ensures.step
-
-pub returns-in-Ok-clause-ok : goal.returns-in-Ok-clause-ok
-returns-in-Ok-clause-ok g c =
-    let fixed = create_fixed c.args.tree.now c.call.new.self c.in-Create.path.now c.in-Ok.reply c.in-Ok.ensures.step in
-    let answers = create_answers no_limit c.args.tree.now c.call.new.self c.in-Create.path.now c.in-Ok.reply c.in-Ok.ensures.step fixed c.requires in
-    on_ok _ (served_one _ _ _ _ c.call.new.self (call (create c.in-Create.path.now)) c.in-Ok.reply _ c.in-Create.ensures answers) c.send-in-Ok.ensures.ok
-
-pub returns-in-Ok-clause-err : goal.returns-in-Ok-clause-err
-returns-in-Ok-clause-err g c =
-    let fixed = create_fixed c.args.tree.now c.call.new.self c.in-Create.path.now c.in-Ok.reply c.in-Ok.ensures.step in
-    let answers = create_answers no_limit c.args.tree.now c.call.new.self c.in-Create.path.now c.in-Ok.reply c.in-Ok.ensures.step fixed c.requires in
-    on_err _ (stopped_one _ _ _ _ c.call.new.self (call (create c.in-Create.path.now)) c.in-Ok.reply _ c.in-Create.ensures answers) c.send-in-Ok.ensures.err
-
-pub returns-in-Ok-clause-grows : goal.returns-in-Ok-clause-grows
-returns-in-Ok-clause-grows g c = create_nodes c.args.tree.now c.call.new.self c.in-Create.path.now c.in-Ok.reply c.in-Ok.ensures.step
-
-pub returns-in-Err-clause-err : goal.returns-in-Err-clause-err
-returns-in-Err-clause-err g c = stopped_none _ _ _ _
+pub returns-in-None-clause-serves : goal.returns-in-None-clause-serves
+returns-in-None-clause-serves g c t keeps =
+    let state = c.args.fs.now.state in
+    let old = g.O.Sink.written c.args.out.now in
+    let new = g.O.Sink.written c.send.new.out in
+    let one : items_of c.args.raw.now ≡ item_of (call_of c.args.raw.now) ∷ [] = c.if-is_empty.ensures (item_of (call_of c.args.raw.now)) in
+    let is : item_of (call_of c.args.raw.now) ≡ bad = ap (λ (o : Option Op). item_of o) (sym c.in-None.ensures) in
+    subst (λ (items : List Item). Serves t items state state old new c.send.result) (sym (one ∙ ap (λ item. item ∷ []) is))
+    (served_reply t bad state state old new c.send.result (Some BadLine) (bad_replies t state g.met.D.Pm.replays keeps) c.send.ensures.bytes)

@@ -1,0 +1,106 @@
+// One call, and its reply.
+ghost use Rattle.std.specs.Prelude.{◌≡◌, ◌≢◌, ◌≤◌, [], ◌∷◌, Some, Err, MatchOption};
+ghost use Rattle.ct_base.specs.Bytes.{PutAppends};
+ghost use Rattle.ct_base.specs.Causes.{Rose};
+ghost use Rattle.ct_fs.specs.Calls.{Keeps};
+ghost use Rattle.ct_script.specs.Shows.{reply_of};
+ghost use Rattle.ct_script.specs.Texts.{reply_line};
+ghost use Rattle.ct_tree.specs.Step.{op_of};
+ghost use Rattle.ct_tree.specs.Tree.{Tree};
+ghost use Rattle.ct_shell.specs.Script.{item_of};
+ghost use Rattle.ct_shell.specs.Served.{Serves, mem_inodes};
+ghost use Rattle.ct_shell.specs.Shows.{error_reply, made_reply, place_reply, stat_reply};
+
+use crate::list::list;
+use ct_base::Sink;
+use ct_fs::{Fs, FsError, Stat};
+use ct_pm::Pm;
+use ct_script::{Quote, Shown, put_reply};
+use ct_tree::Call;
+
+/// Why a script was not served whole.
+#[derive(Clone, Copy, Debug, PartialEq, Eq)]
+pub enum ServeEnd {
+    Device,
+    Output,
+}
+
+/// Makes a call and writes its reply. A call that the file system does not have yet is answered as a bad line.
+pub fn serve_call<D: Pm, O: Sink>(
+    fs: &mut Fs<D>,
+    call: &Call<'_>,
+    quote: &mut Quote,
+    out: &mut O,
+) -> Result<(), ServeEnd>
+    ensures serves { (t : Tree) → Keeps mem_inodes fs.old.state t
+        → Serves t (item_of (Some (op_of call.now)) ∷ []) fs.old.state fs.new.state (O.written out.old) (O.written out.new) result }
+    ensures later { O.faults out.old ≤ O.faults out.new }
+    ensures fault { result ≡ Err ServeEnd.Output → Rose (O.faults out.old) (O.faults out.new) }
+{
+    match *call {
+        Call::Create { path } => send(out, made_reply(fs.create(path))),
+        Call::Mkdir { path } => send(out, made_reply(fs.mkdir(path))),
+        Call::Stat { path } => send(out, stat_reply(fs.stat(path))),
+        Call::Where { path } => send(out, place_reply(fs.locate(path))),
+        Call::List { path } => list(fs, path, quote, out),
+        _ => send(out, Some(Shown::BadLine)),
+    }
+}
+
+/// Writes the line of a reply. There is none where the device failed.
+pub fn send<O: Sink>(out: &mut O, reply: Option<Shown<'_>>) -> Result<(), ServeEnd>
+    ensures bytes { MatchOption reply.entry ((result ≡ Err ServeEnd.Device) × (O.written out.new ≡ O.written out.old))
+        (λ shown. PutAppends (O.written out.old) (O.written out.new) result (reply_line (reply_of shown)) × (result ≢ Err ServeEnd.Device)) }
+    ensures later { O.faults out.old ≤ O.faults out.new }
+    ensures fault { result ≡ Err ServeEnd.Output → Rose (O.faults out.old) (O.faults out.new) }
+{
+    match reply {
+        Some(shown) => match put_reply(out, &shown) {
+            Ok(()) => Ok(()),
+            Err(_) => Err(ServeEnd::Output),
+        },
+        None => Err(ServeEnd::Device),
+    }
+}
+
+/// The reply to a call that was refused.
+pub fn error_reply(error: FsError) -> Option<Shown<'static>>
+    ensures { result ≡ error_reply error }
+{
+    match error {
+        FsError::Dead => None,
+        FsError::Refused(refusal) => Some(Shown::Refused(refusal)),
+        FsError::Fault => None,
+    }
+}
+
+// The reply to a call that makes an object.
+fn made_reply(answer: Result<(), FsError>) -> Option<Shown<'static>>
+    ensures { result ≡ made_reply answer }
+{
+    match answer {
+        Ok(()) => Some(Shown::Done),
+        Err(error) => error_reply(error),
+    }
+}
+
+// The reply to what is told of an object.
+fn stat_reply(answer: Result<Stat, FsError>) -> Option<Shown<'static>>
+    ensures { result ≡ stat_reply answer }
+{
+    match answer {
+        Ok(Stat::File { size }) => Some(Shown::File(size)),
+        Ok(Stat::Dir { count }) => Some(Shown::Dir(count)),
+        Err(error) => error_reply(error),
+    }
+}
+
+// The reply to where a file lies.
+fn place_reply(answer: Result<(u64, u32), FsError>) -> Option<Shown<'static>>
+    ensures { result ≡ place_reply answer }
+{
+    match answer {
+        Ok((base, level)) => Some(Shown::At { base, level }),
+        Err(error) => error_reply(error),
+    }
+}

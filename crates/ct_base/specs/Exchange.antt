@@ -34,14 +34,6 @@ pub record Exchanged (old new : List ℕ) (a b n : ℕ) : Type 0 where
   pub count : page_count new ≡ page_count old
   pub size : length new ≡ length old
 
--- the tables after the pairs are those of the device
-pub record SameTables (device drafted : List ℕ) : Type 0 where
-  pub tables : AreTables device
-  pub pages : (e x : ℕ) → e ≤ 4 → page_at drafted e x ≡ page_at device e x
-  pub same : AreTables drafted
-  pub count : page_count drafted ≡ page_count device
-  pub size : length drafted ≡ length device
-
 -- for each piece the table of its height plus 1 is there on both sides
 abbrev pub HasTables : List ℕ → ℕ → ℕ → ℕ × ℕ → Type 0
 HasTables img a b piece =
@@ -50,12 +42,3 @@ HasTables img a b piece =
 -- the word of the entry for a piece of height h at virtual page p
 abbrev pub entry_at : List ℕ → ℕ → ℕ → ℕ
 entry_at img p h = page_at img (3 - h) (p / 512 ^ (h + 1)) * 512 + p / 512 ^ h % 512
-
--- two words change places
-unfoldable pub with_swap : List ℕ → ℕ → ℕ → List ℕ
-with_swap img w1 w2 = slice_set (slice_set img w1 (word img w2)) w2 (word img w1)
-
--- what the drafted words have of the device's
-pub record SameSize (device drafted : List ℕ) : Type 0 where
-  pub count : page_count drafted ≡ page_count device
-  pub size : length drafted ≡ length device

@@ -23,8 +23,3 @@ pub record IsFormatted (img : List ℕ) (pages n : ℕ) : Type 0 where
   pub long : slice_index img 512 ≡ 0
   pub short : slice_index img 527 ≡ 0
   pub words : (w : ℕ) → 33 * 512 ≤ w → w < 42 * 512 → word img w ≡ value format_words w
-
--- its bytes by address
-unfoldable pub format_bytes : ℕ → ℕ
-format_bytes v =
-    if v == 64 then 2 else (if v == 88 then 15 else (if nat_le (2 ^ 39 + 2 ^ 37) v && nat_lt v (2 ^ 39 + 2 ^ 37 + 10) then 48 else 0))

@@ -1,5 +1,5 @@
 -- Which pages are free, and which lie under files.
-use Rattle.std.specs.Prelude.{◌≡◌, ℕ, ◌<◌, ◌≤◌, ◌↔◌, List, [], ◌∷◌, length, Contains}
+use Rattle.std.specs.Prelude.{◌≡◌, ◌≢◌, ℕ, ◌<◌, ◌≤◌, ◌↔◌, List, [], ◌∷◌, length, Contains}
 use Rattle.ct_base.specs.Walk.{page_at, page_count, walk}
 use Rattle.ct_base.specs.View.{view, inode_count}
 use Rattle.ct_base.specs.Inode.{IsIn, inode}
@@ -36,7 +36,7 @@ pub record HasFreePages (img : List ℕ) (count : ℕ) : Type 0 where
   pub are : AreFree img pages
   pub many : length pages ≡ count
 
--- the page lies under a live file: one of its addresses is mapped to it
+-- the page lies under a live file: one of its addresses is mapped to it. Page 0 is none: it stands for no page.
 pub record IsFilePage (img : List ℕ) (page : ℕ) : Type 0 where
   pub file : ℕ
   pub address : ℕ
@@ -44,3 +44,4 @@ pub record IsFilePage (img : List ℕ) (page : ℕ) : Type 0 where
   pub kind : (inode (view img) file).kind ≡ 1
   pub inside : IsIn (part_of (view img) file) address
   pub is : walk img address ≡ page
+  pub some : page ≢ 0

@@ -17,6 +17,7 @@ pub mod Ranges
 pub mod Rules
 pub mod Settled
 pub mod Slots
+pub mod Spares
 pub mod Split
 pub mod State
 pub mod View

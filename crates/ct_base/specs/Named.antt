@@ -13,8 +13,3 @@ pub record Named (f : Object) (x : List ℕ) : Type 0 where
 unfoldable pub Leads : (ℕ → Object) → ℕ → List (List ℕ) → ℕ → Type 0
 Leads fs i [] c = i ≡ c
 Leads fs i (x ∷ xs) c = (s : Named (fs i) x) × Leads fs (slot_inode (fs i) s.offset) xs c
-
--- object c has the last of the names, its parent the one before, and so on up to inode 1
-unfoldable pub Path : (ℕ → Object) → List (List ℕ) → ℕ → Type 0
-Path fs [] c = c ≡ 1
-Path fs (x ∷ xs) c = (i : ℕ) × (s : Named (fs i) x) × (slot_inode (fs i) s.offset ≡ c) × Path fs xs i

@@ -4,10 +4,6 @@ use Rattle.std.specs.Prelude.{◌≡◌, ◌≢◌, ℕ, zero, suc, ◌+◌, ◌
 use Rattle.std.specs.List.{list_all}
 use Rattle.std.specs.Int.{w64, from_le_bytes, to_le_bytes}
 
--- range (k, i) is range (n, j) or lies in it
-abbrev pub is_in : ℕ → ℕ → ℕ → ℕ → Bool
-is_in k i n j = nat_le k n && (i / 8 ^ (n - k) == j)
-
 -- the ranges have an address in common
 abbrev pub Meet : ℕ → ℕ → ℕ → ℕ → Type 0
 Meet k i n j = (i * 8 ^ k < (j + 1) * 8 ^ n) × (j * 8 ^ n < (i + 1) * 8 ^ k)
@@ -87,12 +83,6 @@ pub record Changes (old new : ℕ → ℕ → Bool) (m p b : ℕ) : Type 0 where
   pub above : (d : ℕ) → m + suc d ≤ 9 → new (m + suc d) (p / 8 ^ suc d) ≡ false
   pub is : b ≡ byte new m p
 
--- Of the header words, those of the first d ranges above (m, p) are those of the new set.
-pub record Between (old new : ℕ → ℕ → Bool) (m p : ℕ) (before now : ℕ → ℕ) (d : ℕ) : Type 0 where
-  pub below : (n j : ℕ) → n < m + d → n ≤ 9 → j < 64 * 8 ^ (9 - n) → now (header_at (n + 1) j) ≡ header new n j
-  pub higher : (n j : ℕ) → m + d ≤ n → n ≤ 9 → j < 64 * 8 ^ (9 - n) → now (header_at (n + 1) j) ≡ header old n j
-  pub rest : (a : ℕ) → a / 549755813888 ≡ 1 → a % 8 ≡ 0 → ((n j : ℕ) → n ≤ 9 → j < 64 * 8 ^ (9 - n) → a ≢ header_at (n + 1) j) → now a ≡ 0
-
 -- The partitions of the set are partitions, and none lies in another.
 pub record IsLiveSet (live : ℕ → ℕ → Bool) : Type 0 where
   pub partition : (n j : ℕ) → live n j ≡ true → IsPartition n j
@@ -117,9 +107,3 @@ pub record Going (live : ℕ → ℕ → Bool) (l e j : ℕ) : Type 0 where
 -- the same by the headers alone, at level n
 abbrev pub IsDown : (ℕ → ℕ) → ℕ → ℕ → ℕ → Type 0
 IsDown word_at l n j = (live : ℕ → ℕ → Bool) → IsLiveSet live → Headers live word_at → Going live l (n - l) j
-
--- The loop over the path of (m, p) has written d words, and goes on with byte b of range (m + d, j).
-pub record OnWay (m p first : ℕ) (before now : ℕ → ℕ) (d j b : ℕ) : Type 0 where
-  pub number : j ≡ p / 8 ^ d
-  pub words : (old new : ℕ → ℕ → Bool) → Headers old before → Changes old new m p first → Between old new m p before now d × (m + d ≤ 9 → b ≡ byte new (m + d) j)
-  pub others : (a : ℕ) → a % 8 ≡ 0 → ((e : ℕ) → e < d → a ≢ header_at (m + e + 1) (p / 8 ^ suc e)) → now a ≡ before a

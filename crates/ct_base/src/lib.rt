@@ -6,8 +6,6 @@ mod mem;
 mod page;
 mod split;
 mod std_ends;
-#[cfg(test)]
-mod tests;
 
 ghost use Rattle.std.specs.Prelude.{◌<◌, ℕ, List, length};
 ghost use Rattle.std.specs.declared.option.Option.{Option};

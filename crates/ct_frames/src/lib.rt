@@ -4,7 +4,5 @@
 
 mod bits;
 mod map;
-#[cfg(test)]
-mod tests;
 
 pub use map::Frames;

@@ -1,10 +1,19 @@
 -- An entry becomes 0: what lies below it is gone, and every other cell keeps its page.
-use Rattle.std.proofs.Common.{◌≡◌, ◌≢◌, ℕ, zero, suc, ◌+◌, ◌*◌, ◌/◌, ◌%◌, ◌^◌, ◌<◌, ◌≤◌, List, sym, ap, ◌∙◌, ◌⊎◌, inl, inr, arith}
+use Rattle.std.proofs.Common.{length, ◌≡◌, ◌≢◌, ℕ, zero, suc, ◌+◌, ◌*◌, ◌/◌, ◌%◌, ◌^◌, ◌<◌, ◌≤◌, List, sym, ap, ◌∙◌, ◌⊎◌, inl, inr, arith}
 use Rattle.std.proofs.Math.Nat.{pow-suc}
 use Rattle.std.proofs.lemmas.Bool.{cases_eq}
-use Rattle.ct_base.specs.Walk.{word, page_count, named_page, next, page_at, ReachesOnce, AreTables}
+use Rattle.ct_base.specs.Walk.{word, page_count, named_page, next, page_at, ReachesOnce, AreTables, AgreeOff}
 use Rattle.ct_image.proofs.Steps.{named_page-zero, next-zero, next-at, next-same, page_at-same_root, page_at-next, page_at-low}
-pub use Rattle.ct_image.specs.Changes.{Cuts}
+
+-- Entry i of the table of cell (d, x) becomes 0.
+pub record Cuts (old new : List ℕ) (d x i : ℕ) : Type 0 where
+  pub tables : AreTables old
+  pub depth : d ≤ 3
+  pub index : i < 512
+  pub table : page_at old d x ≢ 0
+  pub entry : word new (page_at old d x * 512 + i) ≡ 0
+  pub others : AgreeOff (page_at old d x * 512 + i) old new
+  pub size : length new ≡ length old
 
 -- cell (c, a) is on the way to cell (e, y)
 abbrev pub OnWay : ℕ → ℕ → ℕ → ℕ → Type 0

@@ -1,10 +1,10 @@
 -- The exchange goes on by one piece.
 use Rattle.std.proofs.Common.{◌≡◌, ◌≢◌, ℕ, suc, ◌+◌, ◌-◌, ◌*◌, ◌/◌, ◌%◌, ◌^◌, ◌<◌, ◌≤◌, List, refl, sym, ap, ◌∙◌, inl, inr, arith}
 use Rattle.std.proofs.lemmas.Bool.{cases_lt}
-use Rattle.std.proofs.Math.Nat.{div-add-mod, mod-lt, one-le-pow, div-div-eq-div-mul, zero-div, mul-div_cancel, div-le_of_le-mul, mul-mod_left, mul-add-mod_self_left, mul-le-mul_left}
+use Rattle.std.proofs.Math.Nat.{div-add-mod, mod-lt, one-le-pow, div-div-eq-div-mul, zero-div, mul-div_cancel, div-le_of_le-mul, mul-add-mod_self_left, mul-le-mul_left}
 use Rattle.std.proofs.lemmas.Nat.{pow-add}
-use Rattle.ct_base.specs.Walk.{page_at, moved, swapped, AreTables}
-use Rattle.ct_image.proofs.Swap.{Swaps, same_count, swap_at, moved-above, moved-below, moved-twice, swapped-other, fresh_stays, tables_new}
+use Rattle.ct_base.specs.Walk.{page_at, AreTables}
+use Rattle.ct_image.proofs.Swap.{Swaps, same_count, swap_at, moved-above, moved-below, moved-twice, swapped-other, fresh_stays, tables_new, moved, swapped}
 use Rattle.ct_base.specs.Exchange.{partner, Apart, Outside, Exchanged}
 use Rattle.ct_image.proofs.Partner.{partner-none, partner-step, partner-twice}
 

@@ -3,8 +3,7 @@ use Rattle.std.proofs.Common.{◌≡◌, ℕ, ◌+◌, ◌-◌, ◌*◌, ◌/◌
 use Rattle.std.specs.Prelude.{nat_lt, nat_le, ◌&&◌}
 use Rattle.std.proofs.lemmas.Bool.{cases_eq, cases_lt, le-leb, lt-leb, lt-ltb, le-ltb, and_from, and_left, and_right, cond-true, cond-false}
 use Rattle.std.proofs.Math.Nat.{div-add-mod, mod-lt, div-eq_of_lt-le}
-use Rattle.ct_base.specs.Walk.{swapped}
-use Rattle.ct_image.proofs.Swap.{swapped-first, swapped-second, swapped-other}
+use Rattle.ct_image.proofs.Swap.{swapped-first, swapped-second, swapped-other, swapped}
 use Rattle.ct_base.specs.Exchange.{partner, Apart, Outside}
 
 inside : (a n p : ℕ) → a ≤ p → p < a + n → (nat_le a p && nat_lt p (a + n)) ≡ true

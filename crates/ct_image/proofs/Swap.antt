@@ -1,11 +1,32 @@
 -- Two entries of tables of one level change places: the cells below them change places, and every other cell keeps its page.
-use Rattle.std.proofs.Common.{◌≡◌, ◌≢◌, ℕ, zero, suc, ◌+◌, ◌*◌, ◌/◌, ◌%◌, ◌^◌, ◌<◌, ◌≤◌, List, refl, sym, ap, ◌∙◌, inl, inr, arith}
+use Rattle.std.proofs.Common.{◌==◌, if◌then◌else◌, length, ◌≡◌, ◌≢◌, ℕ, zero, suc, ◌+◌, ◌*◌, ◌/◌, ◌%◌, ◌^◌, ◌<◌, ◌≤◌, List, refl, sym, ap, ◌∙◌, inl, inr, arith}
 use Rattle.std.proofs.Math.Nat.{pow-suc, pow-succ', one-le-pow, div-div-eq-div-mul}
 use Rattle.std.proofs.Math.Arith.{mod-mul}
 use Rattle.std.proofs.lemmas.Bool.{cases_eq, eq-eqb, ne_eqb}
-use Rattle.ct_base.specs.Walk.{word, page_count, named_page, next, page_at, byte_in, byte, IsFresh, ReachesOnce, AreTables, swapped, moved}
+use Rattle.ct_base.specs.Walk.{word, page_count, named_page, next, page_at, byte_in, byte, IsFresh, ReachesOnce, AreTables}
 use Rattle.ct_image.proofs.Steps.{next-at, next-same, page_at-same_root, page_at-next, page_at-entry, page_at-low, byte_in-same, walk-cell}
-pub use Rattle.ct_image.specs.Changes.{Swaps}
+
+-- swaps two numbers
+abbrev pub swapped : ℕ → ℕ → ℕ → ℕ
+swapped a b y = if y == a then b else (if y == b then a else y)
+
+-- where a cell goes when cells (d + 1, a) and (d + 1, b) change places
+unfoldable pub moved : ℕ → ℕ → ℕ → ℕ → ℕ → ℕ
+moved d a b zero y = y
+moved d a b (suc e) y = if e == d then swapped a b y else moved d a b e (y / 512) * 512 + y % 512
+
+-- Entry i of the table of cell (d, x) and entry j of the table of cell (d, z) change places.
+pub record Swaps (old new : List ℕ) (d x i z j : ℕ) : Type 0 where
+  pub tables : AreTables old
+  pub depth : d ≤ 3
+  pub index_i : i < 512
+  pub index_j : j < 512
+  pub table_x : page_at old d x ≢ 0
+  pub table_z : page_at old d z ≢ 0
+  pub first : word new (page_at old d x * 512 + i) ≡ word old (page_at old d z * 512 + j)
+  pub second : word new (page_at old d z * 512 + j) ≡ word old (page_at old d x * 512 + i)
+  pub others : (w : ℕ) → w ≢ page_at old d x * 512 + i → w ≢ page_at old d z * 512 + j → word new w ≡ word old w
+  pub size : length new ≡ length old
 
 pub swapped-first : (a b : ℕ) → swapped a b a ≡ b
 swapped-first a b = rw (eq-eqb a a refl) refl

@@ -24,26 +24,3 @@ pub record Links (old new : List ℕ) (d x i p : ℕ) : Type 0 where
   pub entry : word new (page_at old d x * 512 + i) ≡ p * 4096 + 1
   pub others : AgreeOff (page_at old d x * 512 + i) old new
   pub size : length new ≡ length old
-
--- Entry i of the table of cell (d, x) and entry j of the table of cell (d, z) change places.
-pub record Swaps (old new : List ℕ) (d x i z j : ℕ) : Type 0 where
-  pub tables : AreTables old
-  pub depth : d ≤ 3
-  pub index_i : i < 512
-  pub index_j : j < 512
-  pub table_x : page_at old d x ≢ 0
-  pub table_z : page_at old d z ≢ 0
-  pub first : word new (page_at old d x * 512 + i) ≡ word old (page_at old d z * 512 + j)
-  pub second : word new (page_at old d z * 512 + j) ≡ word old (page_at old d x * 512 + i)
-  pub others : (w : ℕ) → w ≢ page_at old d x * 512 + i → w ≢ page_at old d z * 512 + j → word new w ≡ word old w
-  pub size : length new ≡ length old
-
--- Entry i of the table of cell (d, x) becomes 0.
-pub record Cuts (old new : List ℕ) (d x i : ℕ) : Type 0 where
-  pub tables : AreTables old
-  pub depth : d ≤ 3
-  pub index : i < 512
-  pub table : page_at old d x ≢ 0
-  pub entry : word new (page_at old d x * 512 + i) ≡ 0
-  pub others : AgreeOff (page_at old d x * 512 + i) old new
-  pub size : length new ≡ length old

@@ -2,15 +2,21 @@
 //! run time: each function states a law in its contract, and the lemmas that crates above cite stand in proofs/.
 #![tactic(auto)]
 
-ghost use Rattle.std.specs.Prelude.{◌≡◌, ◌+◌, ◌*◌, ◌/◌, ◌^◌, ◌<◌, ℕ, suc, true, List};
+ghost use Rattle.std.specs.Prelude.{◌≡◌, ◌+◌, ◌*◌, ◌/◌, ◌^◌, ◌<◌, ◌≤◌, ℕ, suc, true, List};
 ghost use Rattle.ct_base.specs.Exchange.{partner, Apart};
-ghost use Rattle.ct_base.specs.Walk.{walk, byte, page_at, AreTables, Keeps};
+ghost use Rattle.ct_base.specs.Free.{IsFilePage};
+ghost use Rattle.ct_base.specs.Walk.{walk, byte, page_at, page_count, AreTables, Keeps};
 ghost use Rattle.ct_base.specs.Wants.{Want, is_wanted, missing};
 ghost use Rattle.ct_image.specs.Changes.{Links, Unreached};
 
 /// The walk at an address is the page of the cell of its virtual page.
 pub fn walks_are_cells()
     ensures { (img : List ℕ) → (v : ℕ) → v < 2 ^ 48 → walk img v ≡ page_at img 4 (v / 4096) }
+{}
+
+/// A page under a live file is one of pages 34 to the page count less 1.
+pub fn file_pages_are_pages()
+    ensures { (img : List ℕ) → (page : ℕ) → IsFilePage img page → (34 ≤ page) × (page < page_count img) }
 {}
 
 /// A page that is linked leaves the tables well formed, and each byte what it was.

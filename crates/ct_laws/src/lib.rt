@@ -1,5 +1,5 @@
 //! Laws that hold definitions in place, and need no code: what a crash may leave, by example; that pieces cover each offset
-//! once; and that zeros lie past a file's size.
+//! once; that zeros lie past a file's size; and how many pages a call takes, by example.
 //!
 //! There is nothing to run: each function states a law in its contract, over the very definitions that the crates of code
 //! promise by.
@@ -7,4 +7,5 @@
 
 pub mod cover;
 pub mod lines;
+pub mod plans;
 pub mod tails;

@@ -70,11 +70,11 @@ macro_rules! with_part {
 }
 
 impl AnyPart {
-    /// The partition of a level at an address, `None` where the address is not aligned or lies below root slot 10.
+    /// The partition of a level at an address, `None` above level 9, and where the address is not aligned or lies below root
+    /// slot 10.
     pub fn at(level: u32, base: Vaddr) -> Option<AnyPart>
-        requires { level ≤ 9 }
         ensures value { IfSome result (λ p. partition p ≡ record { base = base; level = level }) }
-        ensures none { IsNone result ↔ ((base % part_bytes level ≢ 0) ⊎ (base / 2 ^ 39 < 10)) }
+        ensures none { IsNone result ↔ ((9 < level) ⊎ ((base % part_bytes level ≢ 0) ⊎ (base / 2 ^ 39 < 10))) }
     {
         match level {
             0 => Some(AnyPart::P0(Part::<0>::at(base)?)),
@@ -86,7 +86,8 @@ impl AnyPart {
             6 => Some(AnyPart::P6(Part::<6>::at(base)?)),
             7 => Some(AnyPart::P7(Part::<7>::at(base)?)),
             8 => Some(AnyPart::P8(Part::<8>::at(base)?)),
-            _ => Some(AnyPart::P9(Part::<9>::at(base)?)),
+            9 => Some(AnyPart::P9(Part::<9>::at(base)?)),
+            _ => None,
         }
     }
 

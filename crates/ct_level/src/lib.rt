@@ -6,8 +6,6 @@
 mod any;
 mod level;
 mod part;
-#[cfg(test)]
-mod tests;
 
 pub use any::AnyPart;
 pub use level::level_for;

@@ -4,11 +4,23 @@ use Rattle.std.specs.Prelude.{◌==◌, nat_lt}
 use Rattle.std.specs.Int.{w64, to_le_bytes, from_le_bytes}
 use Rattle.std.proofs.lemmas.Bool.{cases_eq, le-ltb, lt-ltb, and_left, ne_eqb}
 use Rattle.std.proofs.Math.Nat.{pow-suc, pow-le-pow_right}
-use Rattle.ct_base.specs.Ranges.{summary, byte, shown, bytes_below, header, header_at, IsPartition, Headers, Changes, Between, OnWay}
+use Rattle.ct_base.specs.Ranges.{summary, byte, shown, bytes_below, header, header_at, IsPartition, Headers, Changes}
 use Rattle.ct_base.specs.Published.{words_above}
 use Rattle.ct_parts.proofs.Bytes.{byte-next, up-up}
 use Rattle.ct_parts.proofs.Change.{Differ, header-off, bytes-on, bytes-back, eight-same}
 use Rattle.ct_parts.proofs.Descent.{up_partition, shown-byte}
+
+-- Of the header words, those of the first d ranges above (m, p) are those of the new set.
+pub record Between (old new : ℕ → ℕ → Bool) (m p : ℕ) (before now : ℕ → ℕ) (d : ℕ) : Type 0 where
+  pub below : (n j : ℕ) → n < m + d → n ≤ 9 → j < 64 * 8 ^ (9 - n) → now (header_at (n + 1) j) ≡ header new n j
+  pub higher : (n j : ℕ) → m + d ≤ n → n ≤ 9 → j < 64 * 8 ^ (9 - n) → now (header_at (n + 1) j) ≡ header old n j
+  pub rest : (a : ℕ) → a / 549755813888 ≡ 1 → a % 8 ≡ 0 → ((n j : ℕ) → n ≤ 9 → j < 64 * 8 ^ (9 - n) → a ≢ header_at (n + 1) j) → now a ≡ 0
+
+-- The loop over the path of (m, p) has written d words, and goes on with byte b of range (m + d, j).
+pub record OnWay (m p first : ℕ) (before now : ℕ → ℕ) (d j b : ℕ) : Type 0 where
+  pub number : j ≡ p / 8 ^ d
+  pub words : (old new : ℕ → ℕ → Bool) → Headers old before → Changes old new m p first → Between old new m p before now d × (m + d ≤ 9 → b ≡ byte new (m + d) j)
+  pub others : (a : ℕ) → a % 8 ≡ 0 → ((e : ℕ) → e < d → a ≢ header_at (m + e + 1) (p / 8 ^ suc e)) → now a ≡ before a
 
 -- ---- addresses
 

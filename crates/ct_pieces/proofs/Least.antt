@@ -8,7 +8,7 @@ use Rattle.ct_base.specs.Pieces.{fits, height_at, pieces_from, pieces, IsBlock, 
 use Rattle.ct_pieces.proofs.Steps.{fits_says, height_cases, width_pos}
 
 -- a multiple of w that is below another is at least w below it
-next_multiple : (w x y : ℕ) → 0 < w → x % w ≡ 0 → y % w ≡ 0 → x < y → x + w ≤ y
+pub next_multiple : (w x y : ℕ) → 0 < w → x % w ≡ 0 → y % w ≡ 0 → x < y → x + w ≤ y
 next_multiple w x y pos p q lt =
     let ex = div-add-mod x w in
     let ey = div-add-mod y w in
@@ -65,11 +65,11 @@ height_greatest a b n i k block =
     (λ f3 f2 f1. omega (arith, not_at a b n i k 3 block f3, not_at a b n i k 2 block f2, not_at a b n i k 1 block f1))
 
 -- no block lies on both sides of offset i
-pub IsCut : ℕ → ℕ → ℕ → ℕ → Type 0
+unfoldable pub IsCut : ℕ → ℕ → ℕ → ℕ → Type 0
 IsCut a b n i = (o k : ℕ) → IsBlock a b n (o, k) → o < i → o + 512 ^ k ≤ i
 
 -- the end of a piece is such an offset, where its begin is one
-cut_step : (a b n i : ℕ) → i < n → IsCut a b n i → IsCut a b n (i + 512 ^ height_at a b n i)
+pub cut_step : (a b n i : ℕ) → i < n → IsCut a b n i → IsCut a b n (i + 512 ^ height_at a b n i)
 unfolding IsCut
 cut_step a b n i lt cut o k block before =
     let h = height_at a b n i in
@@ -150,7 +150,7 @@ least_from (suc s) a b n i blocks cut all covers =
           rw (lt-ltb i n lt) (omega (arith, rest, here))
     ]
 
-cut_none : (a b n : ℕ) → IsCut a b n 0
+pub cut_none : (a b n : ℕ) → IsCut a b n 0
 unfolding IsCut
 cut_none a b n o k block lt = absurd (omega arith)
 

@@ -1,3 +1,5 @@
+pub mod Cuts
+pub mod Ends
 pub mod Lines
 pub mod Numbers
 pub mod Puts

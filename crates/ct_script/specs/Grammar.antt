@@ -19,6 +19,18 @@ chopped [] = []
 chopped (x ∷ []) = if x == 13 then [] else x ∷ []
 chopped (x ∷ y ∷ ys) = x ∷ chopped (y ∷ ys)
 
+-- the verbs that name files and directories, or look at them
+abbrev pub other_verb_of : List ℕ → Option Verb
+other_verb_of word =
+    if bytes_eq word (codes "unlink") then Some Unlink
+    else if bytes_eq word (codes "rmdir") then Some Rmdir
+    else if bytes_eq word (codes "rename") then Some Rename
+    else if bytes_eq word (codes "exchange") then Some Exchange
+    else if bytes_eq word (codes "stat") then Some Stat
+    else if bytes_eq word (codes "list") then Some ListNames
+    else if bytes_eq word (codes "where") then Some Where
+    else None
+
 abbrev pub verb_of : List ℕ → Option Verb
 verb_of word =
     if bytes_eq word (codes "create") then Some Create
@@ -28,14 +40,7 @@ verb_of word =
     else if bytes_eq word (codes "append") then Some Append
     else if bytes_eq word (codes "read") then Some Read
     else if bytes_eq word (codes "truncate") then Some Truncate
-    else if bytes_eq word (codes "unlink") then Some Unlink
-    else if bytes_eq word (codes "rmdir") then Some Rmdir
-    else if bytes_eq word (codes "rename") then Some Rename
-    else if bytes_eq word (codes "exchange") then Some Exchange
-    else if bytes_eq word (codes "stat") then Some Stat
-    else if bytes_eq word (codes "list") then Some ListNames
-    else if bytes_eq word (codes "where") then Some Where
-    else None
+    else other_verb_of word
 
 -- a path has one byte or more, and is percent-decoded as a whole
 abbrev pub path_of : List ℕ → Option (List ℕ)

@@ -1,13 +1,12 @@
 //! The text of a script: a line as a call, and a reply as a line.
 #![tactic(auto)]
 
+pub mod laws;
 mod line;
 mod number;
 mod quote;
 mod reply;
 mod scratch;
-#[cfg(test)]
-mod tests;
 mod verb;
 
 pub use line::parse;

@@ -14,7 +14,7 @@ use hex::encode_to_slice;
 use itoa::Buffer;
 
 /// A reply whose parts are at hand. The names of a directory are written by `put_names`, `put_name` and `put_end`.
-#[derive(Clone, Copy, Debug)]
+#[derive(Clone, Copy)]
 pub enum Shown<'a> {
     Done,
 

@@ -1,9 +1,9 @@
 // The verbs of a script.
 ghost use Rattle.std.specs.Prelude.{◌≡◌};
-ghost use Rattle.ct_script.specs.Grammar.{verb_of};
+ghost use Rattle.ct_script.specs.Grammar.{other_verb_of, verb_of};
 
 /// What a line begins with.
-#[derive(Clone, Copy, Debug, PartialEq, Eq)]
+#[derive(Clone, Copy)]
 pub enum Verb {
     Create,
     Mkdir,
@@ -74,6 +74,13 @@ pub fn verb_of(word: &[u8]) -> Option<Verb>
     if word == TRUNCATE {
         return Some(Verb::Truncate);
     }
+    other_verb_of(word)
+}
+
+/// The same of the verbs that name files and directories, or look at them.
+fn other_verb_of(word: &[u8]) -> Option<Verb>
+    ensures { result ≡ other_verb_of word.now }
+{
     if word == UNLINK {
         return Some(Verb::Unlink);
     }

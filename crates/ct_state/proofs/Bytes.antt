@@ -1,7 +1,8 @@
 -- Numbers and objects read from bytes.
-use Rattle.std.proofs.Common.{◌≡◌, ℕ, zero, suc, ◌+◌, ◌^◌, ◌<◌, ◌≤◌, true, refl, sym, ap, ◌∙◌, subst, ◌⊎◌, inl, inr, arith}
+use Rattle.std.proofs.Common.{◌≡◌, ℕ, zero, suc, ◌+◌, ◌^◌, ◌<◌, ◌≤◌, true, [], ◌∷◌, refl, sym, ap, ◌∙◌, subst, ◌⊎◌, inl, inr, arith}
 use Rattle.std.specs.Prelude.{nat_le, ◌&&◌}
 use Rattle.std.proofs.lemmas.Bool.{cases_Bool, cases_eq, cases_lt, eq-eqb, ne_eqb, and_parts, and_from, leb-true, ltb-true, le-leb, lt-ltb, le-ltb}
+use Rattle.std.specs.Int.{w64, from_le_bytes}
 use Rattle.ct_base.specs.Inode.{little, inode, IsNumber}
 use Rattle.ct_base.specs.Objects.{object, objects, no_object, content}
 use Rattle.ct_base.specs.Slots.{bytes_from}
@@ -13,6 +14,20 @@ little-same b c v w (suc n) same =
     let first : c w ≡ b v = ap c (omega arith) ∙ same 0 (omega arith) ∙ ap b (omega arith) in
     let others : little c (w + 1) n ≡ little b (v + 1) n = little-same b c (v + 1) (w + 1) n (λ k lt. ap c (omega arith) ∙ same (suc k) (omega arith) ∙ ap b (omega arith)) in
     rw (first, others) refl
+
+-- eight bytes as a number
+pub little-eight : (b : ℕ → ℕ) (v b0 b1 b2 b3 b4 b5 b6 b7 : ℕ)
+    → b0 ≡ b v → b1 ≡ b (v + 1) → b2 ≡ b (v + 2) → b3 ≡ b (v + 3) → b4 ≡ b (v + 4) → b5 ≡ b (v + 5) → b6 ≡ b (v + 6) → b7 ≡ b (v + 7)
+    → (r : ℕ) → r ≡ from_le_bytes w64 (b0 ∷ b1 ∷ b2 ∷ b3 ∷ b4 ∷ b5 ∷ b6 ∷ b7 ∷ []) → r ≡ little b v 8
+unfolding little
+little-eight b v b0 b1 b2 b3 b4 b5 b6 b7 e0 e1 e2 e3 e4 e5 e6 e7 r is =
+    let f2 : b (v + 1 + 1) ≡ b (v + 2) = ap b (omega arith) in
+    let f3 : b (v + 1 + 1 + 1) ≡ b (v + 3) = ap b (omega arith) in
+    let f4 : b (v + 1 + 1 + 1 + 1) ≡ b (v + 4) = ap b (omega arith) in
+    let f5 : b (v + 1 + 1 + 1 + 1 + 1) ≡ b (v + 5) = ap b (omega arith) in
+    let f6 : b (v + 1 + 1 + 1 + 1 + 1 + 1) ≡ b (v + 6) = ap b (omega arith) in
+    let f7 : b (v + 1 + 1 + 1 + 1 + 1 + 1 + 1) ≡ b (v + 7) = ap b (omega arith) in
+    omega arith
 
 pub little-zero : (b : ℕ → ℕ) (v n : ℕ) → ((k : ℕ) → k < n → b (v + k) ≡ 0) → little b v n ≡ 0
 unfolding little

@@ -1,27 +1,27 @@
 -- After the record of a create the image stands for the tree with the new node.
 use Rattle.std.proofs.Common.{◌≡◌, ◌≢◌, ℕ, ◌*◌, ◌≤◌, true, List, [], ◌∷◌, ◌++◌, length, refl, sym, ap, ◌∙◌, subst, arith}
-use Rattle.std.specs.Prelude.{unwrap_or, Some}
 use Rattle.ct_base.specs.Inode.{inode, IsIn}
-use Rattle.ct_base.specs.Named.{Leads, Path}
+use Rattle.ct_base.specs.Named.{Leads}
 use Rattle.ct_base.specs.Objects.{Object, object, objects}
 use Rattle.ct_base.specs.Path.{is_name}
 use Rattle.ct_base.specs.Rules.{entries, once, inodes, placed, apart, tails, mapped, headers, rest, slots, names, named, reached, Sound, Owns, AreInodes, ArePlaced, ArePartsApart, AreTailsZero, AreHeaders, IsRestZero, AreEntries, AreNamesApart, AreNamed, AreReached}
 use Rattle.ct_base.specs.Slots.{IsSlot, slot_name}
 use Rattle.ct_base.specs.View.{view, inode_count}
 use Rattle.ct_base.specs.Walk.{page_at, AreTables}
-use Rattle.ct_tree.specs.Entries.{lookup, put_entry}
 use Rattle.ct_tree.specs.Lands.{files}
 use Rattle.ct_tree.specs.Ordered.{IsTree}
-use Rattle.ct_tree.specs.Resolve.{put, under, entries_in}
+use Rattle.ct_tree.specs.Resolve.{put}
 use Rattle.ct_tree.specs.Stands.{Stands}
 use Rattle.ct_tree.specs.Tree.{Tree, File, Dir, none}
 use Rattle.ct_state.specs.Alike.{IsWhole}
 use Rattle.ct_state.specs.Leads.{LeadsTo}
-use Rattle.ct_state.proofs.Adds.{Adds, entries_after, apart_after, named_after, reached_after, dir_after}
+use Rattle.ct_state.proofs.Adds.{Adds}
+use Rattle.ct_state.proofs.Added.{adds_trees, adds_stands}
+use Rattle.ct_state.proofs.Addressed.{empty_is}
 use Rattle.ct_state.proofs.Bytes.{objects-in}
+use Rattle.ct_state.proofs.Forests.{trees_of, forest_of, named_of, reached_of}
+use Rattle.ct_state.specs.Forest.{AreTrees}
 use Rattle.ct_state.proofs.Entry.{MakesEntry, entry_space, entry_adds, owns_on, part-same, free_old}
-use Rattle.ct_state.proofs.Puts.{onto, tree_put}
-use Rattle.ct_state.proofs.Resolve.{leads_path}
 
 pub record Creates (old new : List ℕ) (d o i : ℕ) (x : List ℕ) : Type 0 where
   pub whole : IsWhole old
@@ -50,6 +50,12 @@ module _ {old new : List ℕ} {d o i : ℕ} {x : List ℕ} (c : Creates old new 
     fresh = c.fresh;
   })
 
+  made_object : objects (view new) (inode_count old) i ≡ record { kind = (inode (view new) i).kind; size = 0; at = λ k. 0 }
+  made_object = objects-in (view new) (inode_count old) i c.makes.number ∙ empty_is (view new) i (inode (view new) i).kind refl c.makes.size
+
+  trees : AreTrees (objects (view new) (inode_count old)) 1
+  trees = adds_trees adds made_object
+
   back : (P : (ℕ → ℕ) → ℕ → Type 0) → P (view new) (inode_count old) → P (view new) (inode_count new)
   back P h = subst (λ k. P (view new) k) (sym c.inodes) h
 
@@ -71,10 +77,10 @@ module _ {old new : List ℕ} {d o i : ℕ} {x : List ℕ} (c : Creates old new 
   created_sound tails = back (λ b k. AreTailsZero b k) (entry_space c.makes).tails
   created_sound headers = back (λ b k. AreHeaders b k) (entry_space c.makes).headers
   created_sound rest = back (λ b k. IsRestZero b k) (entry_space c.makes).rest
-  created_sound slots = back (λ b k. AreEntries (objects b k)) (entries_after adds)
-  created_sound names = back (λ b k. AreNamesApart (objects b k)) (apart_after adds)
-  created_sound named = back (λ b k. AreNamed (objects b k)) (named_after adds)
-  created_sound reached = back (λ b k. AreReached (objects b k)) (reached_after adds)
+  created_sound slots = back (λ b k. AreEntries (objects b k)) trees.entries
+  created_sound names = back (λ b k. AreNamesApart (objects b k)) trees.apart
+  created_sound named = back (λ b k. AreNamed (objects b k)) (named_of trees)
+  created_sound reached = back (λ b k. AreReached (objects b k)) (reached_of trees)
 
   files_new : files new ≡ objects (view new) (inode_count old)
   files_new = ap (objects (view new)) c.inodes
@@ -99,32 +105,9 @@ module _ {old new : List ℕ} {d o i : ℕ} {x : List ℕ} (c : Creates old new 
     tt,
   )
 
-  -- the tree whose directory has the new node among its entries
-  dir_stands : (xs : List (List ℕ)) (t leaf : Tree) (es : Rattle.ct_tree.specs.Tree.Entries) → IsTree t → Stands (files old) 1 t → Stands (files old) d (Dir es) → Leads (files old) 1 xs d → LeadsTo t xs (Dir es)
-      → Stands (files new) i leaf → Stands (files new) 1 (put t xs (Dir (put_entry x leaf es)))
-  unfolding Path
-  dir_stands xs t leaf es tree st was leads to made =
-      let way = leads_path (files old) 1 d xs [] leads refl in
-      let gs = objects (view new) (inode_count old) in
-      let leaf_stands = subst (λ fs. Stands fs i leaf) files_new made in
-      subst (λ fs. Stands fs 1 (put t xs (Dir (put_entry x leaf es)))) (sym files_new)
-      (tree_put {gs = gs} (λ j live other. adds.others j other (λ is. live (ap (λ k. (files old k).kind) is ∙ adds.free))) (c.sound slots) (c.sound names) (c.sound named) (onto xs []) way xs t (Dir es) (Dir (put_entry x leaf es)) refl
-      leads to tree st (dir_after adds (onto xs []) way es leaf was leaf_stands))
-
--- a node under a name more than the way to a directory
-put_last : (xs : List (List ℕ)) (x : List ℕ) (t leaf : Tree) (es : Rattle.ct_tree.specs.Tree.Entries) → LeadsTo t xs (Dir es) → put t (xs ++ (x ∷ [])) leaf ≡ put t xs (Dir (put_entry x leaf es))
-unfolding LeadsTo
-put_last [] x t leaf es to = ap (λ n. Dir (put_entry x leaf (entries_in n))) to
-put_last (y ∷ ys) x t leaf es to =
-    ap (λ n. Dir (put_entry y n (entries_in t)))
-    (ap (λ n. put n (ys ++ (x ∷ [])) leaf) (under_is y to.1) ∙ put_last ys x to.0 leaf es to.2 ∙ sym (ap (λ n. put n ys (Dir (put_entry x leaf es))) (under_is y to.1)))
-  where
-    under_is : (y : List ℕ) {child : Tree} → lookup y (entries_in t) ≡ Some child → under t y ≡ child
-    under_is y is = ap (λ o. unwrap_or o (Dir none)) is
-
-module _ {old new : List ℕ} {d o i : ℕ} {x : List ℕ} (c : Creates old new d o i x) where
   -- the tree with the new node at its path
   pub created_stands : (xs : List (List ℕ)) (t leaf : Tree) (es : Rattle.ct_tree.specs.Tree.Entries) → IsTree t → Stands (files old) 1 t → Stands (files old) d (Dir es) → Leads (files old) 1 xs d → LeadsTo t xs (Dir es)
       → Stands (files new) i leaf → Stands (files new) 1 (put t (xs ++ (x ∷ [])) leaf)
   created_stands xs t leaf es tree st was leads to made =
-      subst (Stands (files new) 1) (sym (put_last xs x t leaf es to)) (dir_stands c xs t leaf es tree st was leads to made)
+      let f = forest_of (trees_of (c.sound slots) (c.sound names) (c.sound named) (c.sound reached) c.root) tree st in
+      subst (λ fs. Stands fs 1 (put t (xs ++ (x ∷ [])) leaf)) (sym files_new) (adds_stands adds made_object xs leaf f leads (subst (λ fs. Stands fs i leaf) files_new made))

@@ -11,11 +11,11 @@ use Rattle.ct_base.specs.Slots.{IsSlot, Steps}
 use Rattle.ct_tree.specs.Tree.{Dir, none}
 use Rattle.ct_tree.specs.Stands.{Stands}
 use Rattle.ct_tree.specs.Lands.{files}
-use Rattle.ct_base.specs.Format.{IsFormatted, format_bytes}
+use Rattle.ct_base.specs.Format.{IsFormatted}
 use Rattle.ct_base.specs.Rules.{entries, once, inodes, placed, apart, tails, mapped, headers, rest, slots, names, named, reached, Sound, AreInodes, ArePlaced, ArePartsApart, AreTailsZero, AreHeaders, IsRestZero, AreEntries, AreNamesApart, AreNamed, AreReached, Owns}
 use Rattle.ct_state.proofs.Bytes.{little-zero, objects-cases}
 use Rattle.ct_parts.proofs.Local.{byte-empty}
-use Rattle.ct_state.proofs.FormatView.{fresh-slots, fresh-zero, format_view}
+use Rattle.ct_state.proofs.FormatView.{format_bytes, fresh-slots, fresh-zero, format_view}
 use Rattle.ct_state.proofs.FormatCells.{known}
 
 -- the words of the inodes

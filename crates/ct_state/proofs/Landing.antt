@@ -2,7 +2,8 @@
 use Rattle.std.proofs.Common.{◌≡◌, ℕ, ◌%◌, ◌^◌, ◌≤◌, List, refl, sym, ap, ◌∙◌, subst, inl, inr, arith}
 use Rattle.std.proofs.Math.Nat.{pow-le-pow_right}
 use Rattle.std.proofs.lemmas.Bool.{cases_eq}
-use Rattle.ct_tree.specs.Tree.{Tree}
+use Rattle.ct_tree.specs.Tree.{Tree, File, Dir}
+use Rattle.ct_tree.specs.Resolve.{IsDir}
 use Rattle.ct_tree.specs.Ordered.{IsTree}
 use Rattle.ct_base.specs.View.{view, inode_count}
 use Rattle.ct_base.specs.Inode.{inode, IsNumber}
@@ -54,3 +55,12 @@ lands_where img head sound =
     let few : 1 ≤ inode_count (settled img) = omega (arith, settled_inodes img head.recorded, head.inodes.0) in
     let there = sound_stands (settled img) few sound in
     (there.0, there.1, record { head = head; sound = sound; stands = there.2 })
+
+-- and where one lands on a tree, the root is a directory
+pub lands_dir : (img : List ℕ) (t : Tree) → Lands img t → IsDir t
+lands_dir img (Dir es) l = tt
+lands_dir img (File bytes) l =
+    let few : 1 ≤ inode_count (settled img) = omega (arith, settled_inodes img l.head.recorded, l.head.inodes.0) in
+    let number : IsNumber (inode_count (settled img)) 1 = record { from = omega arith; to = few } in
+    let root = ap (λ (f : Object). f.kind) (objects-in (view (settled img)) (inode_count (settled img)) 1 number) ∙ (l.sound inodes 1 number).root refl in
+    absurd (omega (arith, l.stands.kind, root))

@@ -2,7 +2,7 @@
 use Rattle.std.proofs.Common.{◌≡◌, ◌≢◌, ℕ, zero, suc, List, [], ◌∷◌, ◌++◌, length, refl, sym, ap, ◌∙◌, subst, inl, inr, arith, append_assoc, length-append}
 use Rattle.ct_base.specs.Objects.{Object}
 use Rattle.ct_base.specs.Slots.{IsSlot, Names, Steps, slot_inode, slot_name}
-use Rattle.ct_base.specs.Named.{Named, Path}
+use Rattle.ct_base.specs.Named.{Named}
 use Rattle.ct_base.specs.Rules.{AreEntries, AreNamesApart, AreNamed}
 use Rattle.ct_tree.specs.Tree.{Tree, File, Dir, Entries, none, entry, nodes, nodes_below}
 use Rattle.ct_tree.specs.Ordered.{IsTree}
@@ -11,6 +11,7 @@ use Rattle.ct_state.proofs.Counted.{IsAmong, AreOnce, among_left, among_right, a
 use Rattle.ct_state.proofs.Puts.{not_less}
 use Rattle.ct_state.proofs.Unique.{below_has}
 use Rattle.ct_state.proofs.Written.{path_once}
+use Rattle.ct_state.proofs.Paths.{Path}
 
 abbrev mutual
   -- the numbers of the objects of a tree, in its order

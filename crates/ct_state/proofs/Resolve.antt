@@ -11,10 +11,11 @@ use Rattle.ct_state.specs.Leads.{LeadsTo}
 use Rattle.ct_base.specs.Objects.{Object}
 use Rattle.ct_base.specs.Slots.{slot_inode}
 use Rattle.ct_tree.specs.Stands.{HasName, IsDir, Stands, StandIn}
-use Rattle.ct_base.specs.Named.{Named, Leads, Path}
+use Rattle.ct_base.specs.Named.{Named, Leads}
 use Rattle.ct_base.specs.Rules.{AreNamesApart}
 use Rattle.ct_state.proofs.Puts.{cmp_equal, onto}
 use Rattle.ct_state.proofs.Unique.{below_has}
+use Rattle.ct_state.proofs.Paths.{Path}
 
 -- the slot of an entry that is found
 pub record Found (fs : ℕ → Object) (f : Object) (x : List ℕ) (child : Tree) : Type 0 where

@@ -3,8 +3,8 @@ use Rattle.std.proofs.Common.{◌≡◌, ℕ, zero, suc, ◌+◌, ◌-◌, ◌*�
 use Rattle.std.proofs.lemmas.List.{get_or-set_same, get_or-set_other, length-set}
 use Rattle.ct_base.specs.Settled.{cleared, settled, with_pairs, IsShut}
 use Rattle.ct_base.specs.State.{SameState}
-use Rattle.ct_base.specs.Walk.{word, page_at, AreTables}
-use Rattle.ct_image.proofs.Cut.{Cuts}
+use Rattle.ct_base.specs.Walk.{word, page_at, AreTables, IsFresh}
+use Rattle.ct_image.proofs.Cut.{Cuts, cut_at}
 use Rattle.ct_image.proofs.Steps.{page_at-root}
 use Rattle.ct_state.specs.Alike.{Alike, IsWhole}
 use Rattle.ct_state.proofs.Carry.{alike_back}
@@ -38,6 +38,7 @@ record Clears (f g : List ℕ) : Type 0 where
   alike : Alike f g
   whole : IsWhole g
   pages : (p : ℕ) → (p < 2 * 2 ^ 27) ⊎ (10 * 2 ^ 27 ≤ p) → page_at g 4 p ≡ page_at f 4 p
+  cells : (d x : ℕ) → d ≤ 4 → (page_at g d x ≡ 0) ⊎ (page_at g d x ≡ page_at f d x)
 
 -- the last n of the staging slots are cleared
 abbrev with_slots : ℕ → List ℕ → List ℕ
@@ -45,7 +46,7 @@ with_slots zero f = f
 with_slots (suc n) f = set (with_slots n f) (16896 + (9 - n)) 0
 
 clears : (n : ℕ) (f : List ℕ) → n ≤ 8 → IsWhole f → Clears f (with_slots n f)
-clears zero f le whole = record { alike = alike_here f; whole = whole; pages = λ p off. refl }
+clears zero f le whole = record { alike = alike_here f; whole = whole; pages = λ p off. refl; cells = λ d x le. inr refl }
 clears (suc n) f le whole =
     let before = clears n f (omega arith) whole in
     let cut = cut_slot (with_slots n f) (9 - n) before.whole.tables (omega arith) (omega arith) in
@@ -53,6 +54,10 @@ clears (suc n) f le whole =
       alike = alike_then before.alike (cut_alike cut (omega arith) (omega arith));
       whole = cut_whole cut (omega arith) (omega arith) before.whole;
       pages = λ p off. cut_page cut (omega arith) (omega arith) p off ∙ before.pages p off;
+      cells = λ d x le. elim (cut_at cut d x le) [
+        | inl gone ↦ inl gone.1
+        | inr stays ↦ elim (before.cells d x le) [ inl none ↦ inl (stays.1 ∙ none) | inr same ↦ inr (stays.1 ∙ same) ]
+      ];
     }
 
 cleared_is : (f : List ℕ) → with_pairs cleared f ≡ set (set (with_slots 8 f) 527 0) 512 0
@@ -89,6 +94,17 @@ module _ {f : List ℕ} (shut : IsShut f) (whole : IsWhole f) where
   shut_pages p off =
       let c = clears 8 f (omega arith) whole in
       ap (λ g. page_at g 4 p) settles_as ∙ cells_off (gates_off (with_slots 8 f)) 4 p ∙ c.pages p off
+
+  -- a cell is gone, or stays
+  pub shut_cells : (d x : ℕ) → d ≤ 4 → (page_at (settled f) d x ≡ 0) ⊎ (page_at (settled f) d x ≡ page_at f d x)
+  shut_cells d x le =
+      let c = clears 8 f (omega arith) whole in
+      let here : page_at (settled f) d x ≡ page_at (with_slots 8 f) d x = ap (λ g. page_at g d x) settles_as ∙ cells_off (gates_off (with_slots 8 f)) d x in
+      elim (c.cells d x le) [ inl none ↦ inl (here ∙ none) | inr same ↦ inr (here ∙ same) ]
+
+  -- a page that no cell has, none has
+  pub shut_fresh : (q : ℕ) → 1 ≤ q → IsFresh f q → IsFresh (settled f) q
+  shut_fresh q some fresh d x le is = elim (shut_cells d x le) [ inl none ↦ omega (arith, none, is, some) | inr same ↦ fresh d x le (sym same ∙ is) ]
 
 -- two images with closed gates that look alike settle to one state
 pub shut_state : {f g : List ℕ} → SameHead f g → IsShut f → IsShut g → IsWhole f → IsWhole g → Alike f g → SameState f g

@@ -9,7 +9,7 @@ use Rattle.ct_base.specs.Rules.{IsSeen, entries, once, mapped, Sound}
 use Rattle.ct_state.specs.Alike.{IsWhole}
 use Rattle.ct_state.proofs.Neutral.{seen-bounds}
 
-seen_from : (v : ℕ) → v < 2 ^ 48 → (v < 2 ^ 40) ⊎ (10 * 2 ^ 39 ≤ v) → is_seen v ≡ true
+pub seen_from : (v : ℕ) → v < 2 ^ 48 → (v < 2 ^ 40) ⊎ (10 * 2 ^ 39 ≤ v) → is_seen v ≡ true
 seen_from v high (inl low) = ap (λ b. b || (nat_le (10 * 2 ^ 39) v && nat_lt v (2 ^ 48))) (lt-ltb v (2 ^ 40) low)
 seen_from v high (inr up) = or_right (nat_lt v (2 ^ 40)) (nat_le (10 * 2 ^ 39) v && nat_lt v (2 ^ 48)) (and_from _ _ (le-leb (10 * 2 ^ 39) v up) (lt-ltb v (2 ^ 48) high))
   where
@@ -18,7 +18,7 @@ seen_from v high (inr up) = or_right (nat_lt v (2 ^ 40)) (nat_le (10 * 2 ^ 39) v
     or_right false b is = is
 
 -- the first address of a cell of each depth
-down : (d x : ℕ) → 1 ≤ d → d ≤ 3 → IsSeen d (x / 512) → IsSeen (suc d) x
+pub down : (d x : ℕ) → 1 ≤ d → d ≤ 3 → IsSeen d (x / 512) → IsSeen (suc d) x
 down zero x from to seen = absurd (omega arith)
 down (suc zero) x from to seen =
     let v = x / 512 * (4096 * 512 ^ 3) in
@@ -44,7 +44,7 @@ module _ (img : List ℕ) (none : (k : ℕ) → k < 8 → word img (33 * 512 + 2
       next-at img 33 i (omega arith)
       ∙ ap (named_page (page_count img)) (ap (word img) (omega arith) ∙ none (i - 2) (omega arith)) ∙ named_page-zero (page_count img)
 
-  cell_seen : (d x : ℕ) → d ≤ 4 → page_at img d x ≢ 0 → IsSeen d x
+  pub cell_seen : (d x : ℕ) → d ≤ 4 → page_at img d x ≢ 0 → IsSeen d x
   unfolding page_at
   cell_seen zero zero le ne = refl
   cell_seen zero (suc x) le ne = absurd (ne refl)

@@ -11,12 +11,15 @@ use Rattle.ct_base.specs.Objects.{objects}
 use Rattle.ct_tree.specs.Lands.{files}
 use Rattle.ct_base.specs.Rules.{slots, names, named, Sound}
 use Rattle.ct_tree.specs.Stands.{IsFile, Stands}
-use Rattle.ct_base.specs.Named.{Leads, Path}
+use Rattle.ct_base.specs.Named.{Leads}
 use Rattle.ct_base.specs.Exchange.{partner}
 use Rattle.ct_image.proofs.Partner.{partner-first}
-use Rattle.ct_state.proofs.Puts.{onto, tree_put}
+use Rattle.ct_state.proofs.Forests.{once_named, path_up}
+use Rattle.ct_state.proofs.Grafts.{tree_graft}
+use Rattle.ct_state.proofs.Puts.{onto}
 use Rattle.ct_state.proofs.Write.{written}
 use Rattle.ct_state.proofs.Commit.{Commits, exchanged_byte, writes}
+use Rattle.ct_state.proofs.Paths.{Path}
 
 module _ {old mid new : List ℕ} {i a b n : ℕ} (c : Commits old mid new i a b n) where
   -- a byte of a touched page is the staged one
@@ -36,5 +39,5 @@ module _ {old mid new : List ℕ} {i a b n : ℕ} (c : Commits old mid new i a b
   write_stands sound rs xs t was bytes way on leads to tree st file =
       let w = written (writes c) in
       subst (λ fs. Stands fs 1 (put t xs (File bytes))) (sym files_new)
-      (tree_put (λ j live other. w.others j other) (sound slots) (sound names) (sound named) rs way xs t (File was) (File bytes) on leads to tree st
+      (tree_graft w.others (once_named (sound slots) (sound names) (sound named)) rs (path_up (files old) rs i way) xs t (File was) (File bytes) on leads to tree st
       (subst (λ fs. IsFile (fs i) bytes) files_new file))

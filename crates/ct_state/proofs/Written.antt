@@ -3,8 +3,8 @@ use Rattle.std.proofs.Common.{◌≡◌, ◌≢◌, ℕ, zero, suc, List, [], �
 use Rattle.std.proofs.lemmas.Bool.{cases_eq}
 use Rattle.ct_base.specs.Objects.{Object}
 use Rattle.ct_base.specs.Slots.{IsSlot, Names, Steps, slot_inode, slot_name}
-use Rattle.ct_base.specs.Named.{Path}
 use Rattle.ct_base.specs.Rules.{IsEntry, AreEntries, AreNamesApart, AreNamed, AreReached}
+use Rattle.ct_state.proofs.Paths.{Path}
 
 pub record Written (fs gs : ℕ → Object) (i : ℕ) : Type 0 where
   pub others : (j : ℕ) → j ≢ i → gs j ≡ fs j

@@ -4,7 +4,7 @@ use Rattle.std.specs.Borrow.{Bor}
 use Rattle.std.specs.Str.{bytes_eq}
 use Rattle.std.proofs.lemmas.Slice.Eq.{bytes_eq-Decides}
 use Rattle.ct_base.specs.Path.{texts}
-use Rattle.std.specs.Prelude.{IsOkAnd, not, nat_le, ◌&&◌}
+use Rattle.std.specs.Prelude.{IsOkAnd, not, nat_le, ◌&&◌, if◌then◌else◌}
 use Rattle.std.proofs.lemmas.Bool.Decides.{nat_tests}
 use Rattle.std.proofs.lemmas.List.{length-take, length-drop, length-append}
 use Rattle.ct_tree.specs.Tree.{Tree, File}
@@ -19,7 +19,7 @@ use Rattle.ct_tree.proofs.Again.{resolve_put, put_put, other_stays, names_differ
 use Rattle.ct_tree.proofs.Ordered.{resized_length}
 use Rattle.ct_tree.proofs.Walks.{file_below_root}
 
-pass : (c : Option Refusal) (cs : List (Option Refusal)) → c ≡ None → first_of (c ∷ cs) ≡ first_of cs
+pub pass : (c : Option Refusal) (cs : List (Option Refusal)) → c ≡ None → first_of (c ∷ cs) ≡ first_of cs
 pass c cs h = ap (λ o. first_of (o ∷ cs)) h
 
 both_true : (a b : Bool) → (a && b) ≡ true → (a ≡ true) × (b ≡ true)
@@ -55,6 +55,13 @@ written_within old off (x ∷ bytes) h =
 pub range_length : (bytes : List ℕ) (off len : ℕ) → length (range bytes off len) ≤ len
 range_length bytes off len = let a = length-take len (drop off bytes) in omega (arith, a)
 
+-- what a comparison of paths tells
+pub same_path : (path other : List ℕ) → true ≡ bytes_eq path other → path ≡ other
+same_path path other h = (bytes_eq-Decides path other).0 (sym h)
+
+pub other_path : (path other : List ℕ) → false ≡ bytes_eq path other → path ≡ other → ⊥
+other_path path other h e = let no : false ≡ true = h ∙ (bytes_eq-Decides path other).1 e in cc
+
 module _ (t : Tree) (path other : List ℕ) (off other_off len : ℕ) (one two w : List ℕ) (a : at t path ≡ Ok (File one)) (b : at t other ≡ Ok (File two)) where
   pub exchange_passes : bad_path path ≡ None → bad_path other ≡ None → refuse_if (not (are_ranges one off two other_off len)) BadRange ≡ None → overlap path off other other_off len ≡ None →
       above len exchange_limit TooLong ≡ None → refusal t (exchange path off other other_off len) ≡ None
@@ -86,13 +93,28 @@ module _ (t : Tree) (path other : List ℕ) (off other_off len : ℕ) (one two w
         sym (put_put t (names path) (File w) (File v)) ∙ ap (λ q. put (put t (names path) (File w)) (names q) (File v)) e
         ∙ second v w (subst (λ q. resolve (put t (names path) (File w)) (names q) ≡ Ok (File w)) e (resolve_put t (names path) (File w))) made
 
-    module _ (tree : IsTree t) (p : bad_path path ≡ None) (q : bad_path other ≡ None) (ne : path ≡ other → ⊥) where
-      pub second_there : resolve (put t (names path) (File w)) (names other) ≡ Ok (File two)
-      second_there = other_stays (names path) (names other) t w one two tree (names_differ path other p q ne) a b
+    module _ (tree : IsTree t) (p : bad_path path ≡ None) (q : bad_path other ≡ None) where
+      pub second_apart : (path ≡ other → ⊥) → resolve (put t (names path) (File w)) (names other) ≡ Ok (File two)
+      second_apart ne = other_stays (names path) (names other) t w one two tree (names_differ path other p q ne) a b
 
       -- in two
-      pub exchanged_apart : (v : List ℕ) → v ≡ written two other_off (range one off len) → put (put t (names path) (File w)) (names other) (File v) ≡ exchanged t path off other other_off len
-      exchanged_apart v made = second v two second_there made
+      pub exchanged_apart : (path ≡ other → ⊥) → (v : List ℕ) → v ≡ written two other_off (range one off len) →
+          put (put t (names path) (File w)) (names other) (File v) ≡ exchanged t path off other other_off len
+      exchanged_apart ne v made = second v two (second_apart ne) made
+
+      -- in one file, or in two
+      there_by : (same : Bool) → same ≡ bytes_eq path other → resolve (put t (names path) (File w)) (names other) ≡ Ok (File (if same then w else two))
+      there_by true e =
+          let one_path : path ≡ other = same_path path other e in
+          subst (λ o. resolve (put t (names path) (File w)) (names o) ≡ Ok (File w)) one_path (resolve_put t (names path) (File w))
+      there_by false e = second_apart (other_path path other e)
+
+      pub second_there : resolve (put t (names path) (File w)) (names other) ≡ Ok (File (if bytes_eq path other then w else two))
+      second_there = there_by (bytes_eq path other) refl
+
+      pub exchanged_both : (v : List ℕ) → v ≡ written (if bytes_eq path other then w else two) other_off (range one off len) →
+          put (put t (names path) (File w)) (names other) (File v) ≡ exchanged t path off other other_off len
+      exchanged_both v made = second v (if bytes_eq path other then w else two) second_there made
 
 -- what a path leads to, by the names that were read from it
 pub at_is : (t u : Tree) (path : List ℕ) (items lent : List (Bor (List ℕ))) (n : Tree) (bytes : List ℕ) → t ≡ u → names path ≡ texts items → lent ≡ items → resolve t (texts lent) ≡ Ok n → n ≡ File bytes →
@@ -100,13 +122,6 @@ pub at_is : (t u : Tree) (path : List ℕ) (items lent : List (Bor (List ℕ))) 
 at_is t u path items lent n bytes is same value found file =
     ap (λ k. resolve k (names path)) (sym is) ∙ ap (resolve t) (same ∙ ap texts (sym value)) ∙ found ∙ ap Ok file
 
-pub still_below : (t u : Tree) (ns : List (List ℕ)) (bytes : List ℕ) → IsDir t → resolve t ns ≡ Ok (File bytes) → resolve u ns ≡ Ok (File bytes) → IsBelowRoot u ns
-still_below t u [] bytes dir h k = absurd (file_below_root t [] bytes dir h)
-still_below t u (x ∷ xs) bytes dir h k = subst (λ r. IsOkAnd r (λ n. Unit {0})) (sym k) tt
-
--- what a comparison of paths tells
-pub same_path : (path other : List ℕ) → true ≡ bytes_eq path other → path ≡ other
-same_path path other h = (bytes_eq-Decides path other).0 (sym h)
-
-pub other_path : (path other : List ℕ) → false ≡ bytes_eq path other → path ≡ other → ⊥
-other_path path other h e = let no : false ≡ true = h ∙ (bytes_eq-Decides path other).1 e in cc
+pub still_below : (t u : Tree) (ns : List (List ℕ)) (bytes more : List ℕ) → IsDir t → resolve t ns ≡ Ok (File bytes) → resolve u ns ≡ Ok (File more) → IsBelowRoot u ns
+still_below t u [] bytes more dir h k = absurd (file_below_root t [] bytes dir h)
+still_below t u (x ∷ xs) bytes more dir h k = subst (λ r. IsOkAnd r (λ n. Unit {0})) (sym k) tt

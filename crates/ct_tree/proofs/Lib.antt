@@ -1,7 +1,14 @@
 pub mod Again
+pub mod Joined
+pub mod ReadBack
+pub mod Steps
+pub mod Twice
+pub mod Undone
 pub mod Exchanges
+pub mod Firsts
 pub mod Moved
 pub mod Nodes
 pub mod Ordered
 pub mod Places
+pub mod Renames
 pub mod Walks

@@ -2,6 +2,7 @@ pub mod Checks
 pub mod Content
 pub mod Does
 pub mod Entries
+pub mod Firsts
 pub mod Lands
 pub mod Named
 pub mod Listed

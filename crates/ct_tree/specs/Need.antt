@@ -1,5 +1,5 @@
 -- The plan of a call on an image that stands for a tree, how many pages it takes, and the level to which an object grows.
-use Rattle.std.specs.Prelude.{◌≡◌, ℕ, ◌⊎◌, ◌==◌, Bool, true, false, if◌then◌else◌, List, [], ◌∷◌, length, Some}
+use Rattle.std.specs.Prelude.{◌≡◌, ℕ, ◌⊎◌, ◌==◌, true, false, if◌then◌else◌, List, [], length, Some}
 use Rattle.std.specs.Str.{bytes_eq}
 use Rattle.ct_base.specs.View.{view, inode_count}
 use Rattle.ct_base.specs.Inode.{inode}
@@ -68,6 +68,17 @@ HasPlan img (locate path) plan = plan ≡ no_plan
 abbrev pub HasNeed : List ℕ → Op → ℕ → Type 0
 HasNeed img op need = (plan : Plan) × HasPlan img op plan × (need ≡ missing img plan.wants)
 
--- the call grows an object to this level
-abbrev pub Grows : List ℕ → Op → ℕ → Type 0
-Grows img op level = (plan : Plan) × HasPlan img op plan × (plan.growth ≡ Some level)
+-- the object in which the call needs room: the directory of a new entry, or the file that the call writes
+abbrev pub NeedsRoomIn : List ℕ → Op → ℕ → Type 0
+NeedsRoomIn img (create path) i = IsParentAt img path i
+NeedsRoomIn img (mkdir path) i = IsParentAt img path i
+NeedsRoomIn img (write path off bytes) i = IsAt img path i
+NeedsRoomIn img (fill path off len byte) i = IsAt img path i
+NeedsRoomIn img (append path bytes) i = IsAt img path i
+NeedsRoomIn img (truncate path len) i = IsAt img path i
+NeedsRoomIn img (rename path to) i = IsParentAt img to i
+NeedsRoomIn img op i = ⊥
+
+-- the call grows this object to this level
+abbrev pub Grows : List ℕ → Op → ℕ → ℕ → Type 0
+Grows img op i level = (plan : Plan) × HasPlan img op plan × (plan.growth ≡ Some level) × NeedsRoomIn img op i

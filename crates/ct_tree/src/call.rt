@@ -5,7 +5,7 @@ ghost use Rattle.ct_tree.specs.Refusals.{refusal_number};
 use std::marker::Model;
 
 /// A call, with the bytes and numbers that it is given. Offsets and lengths are in bytes.
-#[derive(Clone, Copy, Debug)]
+#[derive(Clone, Copy)]
 pub enum Call<'a> {
     Create {
         path: &'a [u8],
@@ -140,7 +140,7 @@ impl Refusal {
 }
 
 /// Bytes that were read.
-#[derive(Debug, Drop)]
+#[derive(Drop)]
 pub struct Bytes {
     bytes: Vec<u8>,
 }
@@ -168,7 +168,7 @@ impl Bytes {
 }
 
 /// The names in a directory, in byte order.
-#[derive(Debug, Drop)]
+#[derive(Drop)]
 pub struct NameList {
     names: Vec<Vec<u8>>,
 }
@@ -201,7 +201,7 @@ impl NameList {
 }
 
 /// What a call answers.
-#[derive(Debug, Drop)]
+#[derive(Drop)]
 pub enum Reply {
     Done,
 

@@ -5,12 +5,13 @@
 mod call;
 mod checks;
 mod content;
+pub mod laws;
+mod moves;
 mod node;
 mod path;
 mod plain;
+mod ranges;
 mod stop;
-#[cfg(test)]
-mod tests;
 
 pub use call::{Bytes, Call, NameList, Refusal, Reply};
 pub use path::is_name;

@@ -10,13 +10,12 @@ ghost use Rattle.ct_tree.specs.Resolve.{put, cut, IsBelowRoot};
 ghost use Rattle.ct_tree.specs.Step.{file_limit, told, count, step, op_of, create, mkdir, write, fill, append, read, truncate, unlink, rmdir, rename, exchange, stat, list, locate};
 
 use crate::call::{Bytes, Call, NameList, Refusal, Reply};
-use crate::checks::{
-    EXCHANGE_BYTES, FILE_BYTES, READ_BYTES, check_apart, check_end, check_limit, check_not_below,
-    check_not_root, check_ranges,
-};
-use crate::content::{copy_bytes, filled, range, resized, with_range, written};
+use crate::checks::{FILE_BYTES, READ_BYTES, check_end, check_limit, check_not_root};
+use crate::content::{copy_bytes, filled, range, resized, written};
+use crate::moves::{check_move, check_replaced};
 use crate::node::{Entry, Kind, Node, check_empty, check_vacant, names_in};
 use crate::path::{last_name, names_of, parent};
+use crate::ranges::{check_exchange, exchanged, two_files};
 use crate::stop::Stop;
 use ct_base::NoMemory;
 use std::alloc::Global;
@@ -227,15 +226,11 @@ impl PlainTree {
     {
         let names = names_of(self.alloc, path)?;
         let target = names_of(self.alloc, to)?;
-        check_not_root(&names, Refusal::IsRoot)?;
-        check_not_root(&target, Refusal::IsRoot)?;
-        let node = self.root.find(&names)?;
-        self.root.dir_at(parent(&target))?;
-        check_not_below(&names, &target)?;
+        check_move(&self.root, &names, &target)?;
         if path == to {
             return Ok(Reply::Done);
         }
-        node.check_like(&self.root, &target)?;
+        check_replaced(&self.root, &names, &target)?;
         let root = self.root.moved(self.alloc, &names, &target)?;
         self.root = root;
         Ok(Reply::Done)
@@ -253,20 +248,9 @@ impl PlainTree {
     {
         let names = names_of(self.alloc, path)?;
         let others = names_of(self.alloc, other)?;
-        let one = self.root.find(&names)?;
-        let two = self.root.find(&others)?;
-        let one = one.as_file()?;
-        let two = two.as_file()?;
-        check_ranges(one, off, two, other_off, len)?;
-        check_apart(path, off, other, other_off, len)?;
-        check_limit(len, EXCHANGE_BYTES, Refusal::TooLong)?;
-        let first = with_range(self.alloc, one, off, two, other_off, len)?;
-        if path == other {
-            let both = with_range(self.alloc, &first, other_off, one, off, len)?;
-            self.set_file(&names, both);
-            return Ok(Reply::Done);
-        }
-        let second = with_range(self.alloc, two, other_off, one, off, len)?;
+        let (one, two) = two_files(&self.root, &names, &others)?;
+        check_exchange(path, one, off, other, two, other_off, len)?;
+        let (first, second) = exchanged(self.alloc, one, off, two, other_off, len, path == other)?;
         self.set_file(&names, first);
         self.set_file(&others, second);
         Ok(Reply::Done)

@@ -1,3 +1,4 @@
 pub mod Device
 pub mod Images
+pub mod Phase
 pub mod Ram

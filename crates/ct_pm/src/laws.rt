@@ -1,5 +1,5 @@
 // What holds of every history.
-ghost use Rattle.std.specs.Prelude.{◌≡◌, [], ◌∷◌, ℕ, Bool, List, Option, Some, Contains, IsTrue, length, ◌+◌, ◌<◌, ◌≤◌};
+ghost use Rattle.std.specs.Prelude.{◌≡◌, ◌⊎◌, [], ◌∷◌, ℕ, Bool, List, Option, Some, Contains, IsTrue, length, slice_set, ◌+◌, ◌/◌, ◌<◌, ◌≤◌};
 ghost use Rattle.ct_pm.specs.declared.step.Step.TheVariants.{Store, Flush, Fence};
 ghost use Rattle.ct_pm.specs.Images.{History, at, first, reads, SameLine, IsAllowed, IsSettled, IsWrittenBack};
 ghost use Rattle.ct_pm.specs.Device.{with_steps, LeavesOnly, MakesOnly, QuietOff, StoresOver};
@@ -10,6 +10,14 @@ pub fn a_fence_holds_lines()
     ensures line { (h : History) (line : ℕ) (image : List ℕ) → IsWrittenBack line h →
         IsAllowed (record { start = h.start; steps = Fence ∷ h.steps }) image → SameLine line image (reads h) }
     ensures all { (h : History) → ((line : ℕ) → IsWrittenBack line h) → IsSettled (record { start = h.start; steps = Fence ∷ h.steps }) }
+{}
+
+/// Stores to one line appear in their order: an image that a crash may leave after a store is one from before it, or one from
+/// before it that shows in the store's line what read there, with the word set. So with the word it has all that was stored to
+/// the line before.
+pub fn stores_to_a_line_appear_in_order()
+    ensures { (h : History) (word value : ℕ) (image : List ℕ) → word < length h.start → IsAllowed (record { start = h.start; steps = Store word value ∷ h.steps }) image →
+        IsAllowed h image ⊎ ((base : List ℕ) × IsAllowed h base × SameLine (word / 8) base (reads h) × (image ≡ slice_set base word value)) }
 {}
 
 /// The words as they read are an image that a crash may leave. So what holds of each image holds of them.

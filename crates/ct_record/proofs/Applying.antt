@@ -1,19 +1,19 @@
 -- Pairs are applied one after the other.
-use Rattle.std.proofs.Common.{◌≡◌, ◌⊎◌, ℕ, ◌+◌, ◌*◌, ◌/◌, ◌<◌, ◌≤◌, zero, suc, List, Option, Result, length, drop, set, refl, sym, ◌∙◌, ap, ap₂, subst, inl, inr, arith}
+use Rattle.std.proofs.Common.{◌≡◌, ◌⊎◌, ℕ, ◌+◌, ◌*◌, ◌/◌, ◌<◌, ◌≤◌, zero, suc, List, [], ◌∷◌, Option, Result, Ok, Err, length, drop, set, refl, sym, ◌∙◌, ap, ap₂, subst, inl, inr, arith}
 use Rattle.std.specs.Prelude.{slice_index, OnOk}
 use Rattle.std.proofs.lemmas.Bool.{cases_eq}
-use Rattle.ct_pm.specs.declared.step.Step.TheVariants.{Fence}
+use Rattle.ct_pm.specs.declared.step.Step.TheVariants.{Fence, Flush}
 use Rattle.ct_pm.specs.Images.{History}
 use Rattle.ct_pm.specs.Device.{AddsStep, LeavesOnly, MakesOnly, NothingPending, SameOff, WrittenBack, QuietOff}
 use Rattle.ct_pm.proofs.Told.{weaker}
-use Rattle.ct_pm.proofs.Quiet.{quiet_then, quiet_settled}
+use Rattle.ct_pm.proofs.Quiet.{back_flushed, quiet_then, quiet_settled}
 use Rattle.ct_pm.proofs.Fence.{settled_by_fence}
 use Rattle.ct_pm.proofs.Made.{makes_then, makes_weaker}
 use Rattle.ct_pm.proofs.OneWord.{Replays}
 use Rattle.ct_base.specs.Settled.{HasFewPairs, HasPages, Pair, with_pairs, pairs_at, pairs_behind, open_pairs, HaveTargets, IsRecord}
-use Rattle.ct_record.specs.Record.{SettlesTo, IsOpen, OpensOnly, Stand, IsPlace, AreApplied}
+use Rattle.ct_record.specs.Record.{SettlesTo, IsOpen, OpensOnly, Stand, IsPlace, AreApplied, SharesLine, StaysInLine}
 use Rattle.ct_base.specs.Settled.{Named, Gives}
-use Rattle.ct_image.proofs.Pairs.{length-with_pairs, with_pairs_off, with_pairs_twice, is_named, named_target, named_here, named_more, gives_here}
+use Rattle.ct_image.proofs.Pairs.{length-with_pairs, with_pairs_off, with_pairs_twice, is_named, named_at, named_target, named_here, named_more, gives_here}
 use Rattle.ct_record.proofs.Lawful.{few_alike, moved_few}
 use Rattle.ct_record.proofs.Opens.{moved_opens}
 use Rattle.ct_record.proofs.Settles.{same_wider, open_alike, open_target, pairs_same, settles_moved}
@@ -28,65 +28,81 @@ pub record MayApply (from count : ℕ) (was : List ℕ) : Type 0 where
 abbrev pub Applied : ℕ → ℕ → List ℕ → List ℕ → Type 0
 Applied from i was words = words ≡ with_pairs (pairs_at from i was) was
 
-module _ {from count i : ℕ} {was words : List ℕ} (may : MayApply from count was) (below : i < count) (so_far : Applied from i was words) where
-  pub stays : (word : ℕ) → word < 16896 → slice_index words word ≡ slice_index was word
+module _ {from count i : ℕ} {was words : List ℕ} (may : MayApply from count was) (within : i ≤ count) (so_far : Applied from i was words) where
+  stays : (word : ℕ) → word < 16896 → slice_index words word ≡ slice_index was word
   stays word low =
       ap (λ (l : List ℕ). slice_index l word) so_far
       ∙ with_pairs_off (pairs_at from i was) was word (λ named.
-      let target = named_target from count was word may.targets (named_more from count i was word (omega arith) named) in omega (arith, target.0))
+      let target = named_target from count was word may.targets (named_more from count i was word within named) in omega (arith, target.0))
 
-  pub size : length words ≡ length was
+  size : length words ≡ length was
   size = ap length so_far ∙ length-with_pairs (pairs_at from i was) was
 
-  pub pair_word : slice_index words (from + 2 * i) ≡ slice_index was (from + 2 * i)
-  pair_word = stays (from + 2 * i) (omega (arith, may.inside))
+  pair_word : (k : ℕ) → k < count → slice_index words (from + 2 * k) ≡ slice_index was (from + 2 * k)
+  pair_word k below = stays (from + 2 * k) (omega (arith, may.inside))
 
-  pub pair_value : slice_index words (from + 2 * i + 1) ≡ slice_index was (from + 2 * i + 1)
-  pair_value = stays (from + 2 * i + 1) (omega (arith, may.inside))
+  pair_value : (k : ℕ) → k < count → slice_index words (from + 2 * k + 1) ≡ slice_index was (from + 2 * k + 1)
+  pair_value k below = stays (from + 2 * k + 1) (omega (arith, may.inside))
 
-  pub pair_within : from + 2 * i + 1 < length words
-  pair_within = omega (arith, size, may.inside, may.pages.0, may.pages.1)
+  pub pairs_within : from + 2 * count ≤ length words
+  pairs_within = omega (arith, size, may.inside, may.pages.0, may.pages.1)
 
-  pub target_within : slice_index words (from + 2 * i) < length words
-  target_within = omega (arith, size, pair_word, (may.targets i below).1, may.pages.1)
+  pub targets_within : (k : ℕ) → k < count → slice_index words (from + 2 * k) < length words
+  targets_within k below = omega (arith, size, pair_word k below, (may.targets k below).1, may.pages.1)
 
-  pub one_more : (new : List ℕ) → new ≡ set words (slice_index words (from + 2 * i)) (slice_index words (from + 2 * i + 1)) → Applied from (i + 1) was new
-  one_more new is =
-      let more : i + 1 ≡ suc i = omega arith in
-      is
-      ∙ ap₂ (λ (w v : ℕ). set words w v) pair_word pair_value
-      ∙ ap (λ (l : List ℕ). set l (slice_index was (from + 2 * i)) (slice_index was (from + 2 * i + 1))) so_far
-      ∙ ap (λ (n : ℕ). with_pairs (pairs_at from n was) was) (sym more)
+  pub some_applied : AreApplied from count was words
+  some_applied = (i, within, so_far)
 
-  pub either : (new : List ℕ) → (new ≡ words) ⊎ (new ≡ set words (slice_index words (from + 2 * i)) (slice_index words (from + 2 * i + 1))) → AreApplied from count was new
-  either new (inl is) = (i, omega arith, is ∙ so_far)
-  either new (inr is) = (i + 1, omega arith, one_more new is)
+  -- the lines of all words that the pairs name are written back
+  pub all_back : (told : Option History) → ((k : ℕ) → k < count → WrittenBack told (slice_index words (from + 2 * k) / 8)) → (word : ℕ) → Named (pairs_at from count was) word → WrittenBack told (word / 8)
+  all_back told back word named =
+      let at = named_at from count was word named in
+      subst (λ (w : ℕ). WrittenBack told (w / 8)) (pair_word at.0 at.1 ∙ sym at.2) (back at.0 at.1)
 
-  pub names : Named (pairs_at from count was) (slice_index words (from + 2 * i))
-  names = subst (Named (pairs_at from count was)) (sym pair_word) (named_here from count i was below)
+  module _ (below : i < count) where
+    pub one_more : (new : List ℕ) → new ≡ set words (slice_index words (from + 2 * i)) (slice_index words (from + 2 * i + 1)) → Applied from (i + 1) was new
+    one_more new is =
+        let more : i + 1 ≡ suc i = omega arith in
+        is
+        ∙ ap₂ (λ (w v : ℕ). set words w v) (pair_word i below) (pair_value i below)
+        ∙ ap (λ (l : List ℕ). set l (slice_index was (from + 2 * i)) (slice_index was (from + 2 * i + 1))) so_far
+        ∙ ap (λ (n : ℕ). with_pairs (pairs_at from n was) was) (sym more)
 
-  pub quiet_more : {old mid new : Option History} → QuietOff (Named (pairs_at from count was)) old mid → QuietOff (λ word. word ≡ slice_index words (from + 2 * i)) mid new → QuietOff (Named (pairs_at from count was)) old new
-  quiet_more run more = quiet_then (Named (pairs_at from count was)) (λ word is. subst (Named (pairs_at from count was)) (sym is) names) run more
+    names : Named (pairs_at from count was) (slice_index words (from + 2 * i))
+    names = subst (Named (pairs_at from count was)) (sym (pair_word i below)) (named_here from count i was below)
 
-  pub gives_it : Gives (pairs_at from count was) (slice_index words (from + 2 * i)) (slice_index words (from + 2 * i + 1))
-  gives_it = subst (λ (w : ℕ). Gives (pairs_at from count was) w (slice_index words (from + 2 * i + 1))) (sym pair_word)
-      (subst (λ (v : ℕ). Gives (pairs_at from count was) (slice_index was (from + 2 * i)) v) (sym pair_value) (gives_here from count i was below))
+    pub quiet_more : {old mid new : Option History} → QuietOff (Named (pairs_at from count was)) old mid → QuietOff (λ word. word ≡ slice_index words (from + 2 * i)) mid new → QuietOff (Named (pairs_at from count was)) old new
+    quiet_more run more = quiet_then (Named (pairs_at from count was)) (λ word is. subst (Named (pairs_at from count was)) (sym is) names) run more
 
-  pub makes_more : {old mid new : Option History} → MakesOnly (Gives (pairs_at from count was)) old mid
-      → MakesOnly (λ word value. (word ≡ slice_index words (from + 2 * i)) × (value ≡ slice_index words (from + 2 * i + 1))) mid new → MakesOnly (Gives (pairs_at from count was)) old new
-  makes_more made more =
-      makes_then made (makes_weaker (Gives (pairs_at from count was)) (λ word value is.
-      subst (λ (w : ℕ). Gives (pairs_at from count was) w value) (sym is.0) (subst (λ (v : ℕ). Gives (pairs_at from count was) (slice_index words (from + 2 * i)) v) (sym is.1) gives_it)) more)
+    gives_it : Gives (pairs_at from count was) (slice_index words (from + 2 * i)) (slice_index words (from + 2 * i + 1))
+    gives_it = subst (λ (w : ℕ). Gives (pairs_at from count was) w (slice_index words (from + 2 * i + 1))) (sym (pair_word i below))
+        (subst (λ (v : ℕ). Gives (pairs_at from count was) (slice_index was (from + 2 * i)) v) (sym (pair_value i below)) (gives_here from count i was below))
 
-  pub back_more : (mid new : Option History) → ((word : ℕ) → Named (pairs_at from i was) word → WrittenBack mid (word / 8)) → WrittenBack new (slice_index words (from + 2 * i) / 8)
-      → ((line : ℕ) → WrittenBack mid line → WrittenBack new line) → (word : ℕ) → Named (pairs_at from (i + 1) was) word → WrittenBack new (word / 8)
-  back_more mid new back here still word named =
-      let more : i + 1 ≡ suc i = omega arith in
-      let split : Named (pairs_at from (suc i) was) word = subst (λ (n : ℕ). Named (pairs_at from n was) word) more named in
-      elim split [
-        | inl is ↦ subst (λ (w : ℕ). WrittenBack new (w / 8)) (pair_word ∙ sym is) here
-        | inr before ↦ still (word / 8) (back word before)
-      ]
+    pub makes_more : {old mid new : Option History} → MakesOnly (Gives (pairs_at from count was)) old mid
+        → MakesOnly (λ word value. (word ≡ slice_index words (from + 2 * i)) × (value ≡ slice_index words (from + 2 * i + 1))) mid new → MakesOnly (Gives (pairs_at from count was)) old new
+    makes_more made more =
+        makes_then made (makes_weaker (Gives (pairs_at from count was)) (λ word value is.
+        subst (λ (w : ℕ). Gives (pairs_at from count was) w value) (sym is.0) (subst (λ (v : ℕ). Gives (pairs_at from count was) (slice_index words (from + 2 * i)) v) (sym is.1) gives_it)) more)
+
+-- the line of a pair is flushed
+pub line_back : {T E : Type 0} (r : Result T E) (Shares : Type 0) {mid new : Option History} (line : ℕ) → AddsStep r (Flush line) mid new → OnOk r (Shares ⊎ WrittenBack new line)
+line_back (Ok done) Shares line adds = inr (back_flushed adds)
+line_back (Err error) Shares line adds = tt
+
+-- the lines of one pair more are written back
+pub lines_more : (mid new : Option History) (from i : ℕ) (was words : List ℕ) → words ≡ was → ((k : ℕ) → k < i → WrittenBack mid (slice_index was (from + 2 * k) / 8)) → ((line : ℕ) → WrittenBack mid line → WrittenBack new line)
+    → SharesLine from i words ⊎ WrittenBack new (slice_index words (from + 2 * i) / 8) → (k : ℕ) → k < i + 1 → WrittenBack new (slice_index was (from + 2 * k) / 8)
+lines_more mid new from i was words same back still here k below = elim (cases_eq k i) [
+  | inl is ↦
+      let newest : WrittenBack new (slice_index words (from + 2 * i) / 8) = elim here [
+        | inl shares ↦
+            subst (WrittenBack new) shares.2
+            (still (slice_index words (from + 2 * shares.0) / 8) (subst (λ (l : List ℕ). WrittenBack mid (slice_index l (from + 2 * shares.0) / 8)) (sym same) (back shares.0 shares.1)))
+        | inr done ↦ done
+      ] in
+      subst (λ (j : ℕ). WrittenBack new (slice_index was (from + 2 * j) / 8)) (sym is) (subst (λ (l : List ℕ). WrittenBack new (slice_index l (from + 2 * i) / 8)) same newest)
+  | inr ne ↦ still (slice_index was (from + 2 * k) / 8) (back k (omega arith))
+]
 
 -- the first j of the pairs are all but the newest few
 pub first_pairs : (from n j : ℕ) (words : List ℕ) → j ≤ n → (k : ℕ) × (drop k (pairs_at from n words) ≡ pairs_at from j words)
@@ -114,6 +130,11 @@ place_long words is some = record {
   targets = is.long_targets;
 }
 
+gives_named : (pairs : List Pair) (word value : ℕ) → Gives pairs word value → Named pairs word
+gives_named [] word value none = absurd none
+gives_named (pair ∷ pairs) word value (inl is) = inl is.0
+gives_named (pair ∷ pairs) word value (inr later) = inr (gives_named pairs word value later)
+
 module _ {from count : ℕ} {words : List ℕ} (place : IsPlace from count words) (is : IsRecord words) where
   open_quiet : {old new : Option History} → QuietOff (Named (pairs_at from count words)) old new → QuietOff (Named (open_pairs words)) old new
   open_quiet {old = old} {new = new} run = subst (λ (ps : List Pair). QuietOff (Named ps) old new) place.pairs run
@@ -123,6 +144,12 @@ module _ {from count : ℕ} {words : List ℕ} (place : IsPlace from count words
 
   pub open_made : {old new : Option History} → MakesOnly (Gives (pairs_at from count words)) old new → MakesOnly (Gives (open_pairs words)) old new
   open_made {old = old} {new = new} made = subst (λ (ps : List Pair). MakesOnly (Gives ps) old new) place.pairs made
+
+  -- no word of the record is stored to
+  pub apply_line : {old new : Option History} → MakesOnly (Gives (pairs_at from count words)) old new → MakesOnly StaysInLine old new
+  apply_line made =
+      makes_weaker StaysInLine (λ word value gives inside.
+      absurd (omega (arith, inside.1, (named_target from count words word place.targets (gives_named (pairs_at from count words) word value gives)).0))) made
 
   pub applied_open : (new : List ℕ) → new ≡ with_pairs (pairs_at from count words) words → new ≡ with_pairs (open_pairs words) words
   applied_open new all = all ∙ ap (λ (ps : List Pair). with_pairs ps words) place.pairs

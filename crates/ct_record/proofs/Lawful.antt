@@ -1,10 +1,8 @@
 -- A record is lawful in an image, and page 0 stays.
-use Rattle.std.proofs.Common.{◌≡◌, ℕ, ◌+◌, ◌*◌, ◌<◌, ◌≤◌, List, Option, sym, ◌∙◌, inl, inr, arith}
+use Rattle.std.proofs.Common.{◌≡◌, ℕ, ◌+◌, ◌*◌, ◌<◌, ◌≤◌, List, sym, ◌∙◌, inl, inr, arith}
 use Rattle.std.specs.Prelude.{slice_index}
 use Rattle.ct_base.specs.Settled.{Pair, Named, with_pairs, open_pairs, cleared, settled, HasFewPairs, IsRecord, IsShut}
-use Rattle.ct_pm.specs.Device.{LeavesOnly, SameOff}
-use Rattle.ct_pm.specs.Images.{History}
-use Rattle.ct_pm.proofs.Told.{both, weaker}
+use Rattle.ct_pm.specs.Device.{SameOff}
 use Rattle.ct_record.specs.Record.{AreApart, KeepsHead, SettlesTo, SettlesToEither}
 use Rattle.ct_image.proofs.Pairs.{length-with_pairs, with_pairs_off}
 use Rattle.ct_record.proofs.Settles.{cleared_in, length-settled, open_target}
@@ -88,11 +86,3 @@ either_head pairs words image apart shut was (inl none) = settles_head words ima
 either_head pairs words image apart shut was (inr all) =
     let applied = with_pairs pairs words in
     head_then (pairs_head pairs words apart) (settles_head applied image (shut_few 0 applied (pairs_shut pairs words apart shut)).lawful was all)
-
--- the images of a stretch keep page 0
-pub heads : {most : ℕ} {old new : Option History} (words : List ℕ) → IsRecord words → LeavesOnly old new (SettlesTo words) → LeavesOnly old new (HasFewPairs most) → LeavesOnly old new (KeepsHead words)
-heads words is settles lawful = weaker (KeepsHead words) (λ image has. settles_head words image is has.1.lawful has.0) (both settles lawful)
-
-pub either_heads : {most : ℕ} {old new : Option History} (pairs : List Pair) (words : List ℕ) → AreApart pairs → IsShut words → LeavesOnly old new (SettlesToEither pairs words) → LeavesOnly old new (HasFewPairs most)
-    → LeavesOnly old new (KeepsHead words)
-either_heads pairs words apart shut settles lawful = weaker (KeepsHead words) (λ image has. either_head pairs words image apart shut has.1.lawful has.0) (both settles lawful)

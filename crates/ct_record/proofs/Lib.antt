@@ -1,6 +1,7 @@
 pub mod Settles
 pub mod Moments
 pub mod Drafts
+pub mod Copies
 pub mod Arming
 pub mod Applying
 pub mod Closing
@@ -9,3 +10,4 @@ pub mod Chain
 pub mod Under
 pub mod Lawful
 pub mod Opens
+pub mod Ended

@@ -1,13 +1,12 @@
 -- What holds of each image of a device.
-use Rattle.std.proofs.Common.{◌≡◌, ◌⊎◌, ℕ, ◌+◌, ◌*◌, ◌<◌, List, Option, Some, None, Result, Ok, Err, length, set, sym, ◌∙◌, subst, inr, arith}
+use Rattle.std.proofs.Common.{◌≡◌, ◌⊎◌, ℕ, ◌<◌, List, Option, Some, None, Result, Ok, Err, length, set, sym, ◌∙◌, subst, inr}
 use Rattle.std.specs.Prelude.{IfOk, IfErr, OnOk, OnErr}
 use Rattle.ct_pm.specs.declared.step.Step.TheVariants.{Store}
 use Rattle.ct_pm.specs.Images.{History}
-use Rattle.ct_pm.specs.Device.{AddsStep, EachNow, LeavesOnly, NothingPending, SameOff, QuietOff, IsIn}
+use Rattle.ct_pm.specs.Device.{AddsStep, EachNow, LeavesOnly, NothingPending, SameOff, QuietOff}
 use Rattle.ct_pm.proofs.Told.{weaker}
-use Rattle.ct_pm.proofs.Quiet.{same_off_set, quiet_here, quiet_store, each_now_kept}
+use Rattle.ct_pm.proofs.Quiet.{same_off_set, quiet_here, quiet_store, quiet_then, each_now_kept}
 use Rattle.ct_pm.proofs.OneWord.{Replays, on_device}
-use Rattle.ct_record.specs.Record.{IsTouched}
 use Rattle.ct_record.proofs.Settles.{same_refl, same_sym, same_then, same_wider}
 
 -- what holds of each image now, and does not look at the words that move, holds of each image of a quiet stretch
@@ -32,8 +31,9 @@ pub store_same : {T E : Type 0} (Moved : ℕ → Type 0) (r : Result T E) (old n
 store_same Moved (Ok done) old new word value ok err moved = subst (λ l. SameOff Moved l old) (sym ok) (same_off_set Moved old old word value moved (same_refl old))
 store_same Moved (Err error) old new word value ok err moved = subst (λ l. SameOff Moved l old) (sym err) (same_refl old)
 
-pub touched : (count word : ℕ) → count < 8184 → IsIn (528 + 2 * count) 2 word → IsTouched count word
-touched count word few is = (omega (arith, is.0), omega (arith, is.1), omega (arith, is.1))
+-- a stretch that is quiet off few words is quiet off more
+pub quiet_wider : {old new : Option History} {More : ℕ → Type 0} (Moved : ℕ → Type 0) → ((word : ℕ) → More word → Moved word) → QuietOff More old new → QuietOff Moved old new
+quiet_wider {old = old} Moved within run = quiet_then Moved within (quiet_here Moved old) run
 
 -- two stores, the second made or refused
 pub two_stores_quiet : {S F T E : Type 0} {one : Result S F} {two : Result T E} {old mid new : Option History} {a b v w : ℕ} (Moved : ℕ → Type 0) (was words : List ℕ) → Replays old was → Replays mid words

@@ -1,18 +1,19 @@
 -- A record from its begin to its end.
-use Rattle.std.proofs.Common.{◌≡◌, ℕ, List, Option, sym, ◌∙◌, ap, subst, inl, inr}
+use Rattle.std.proofs.Common.{◌≡◌, ℕ, ◌≤◌, List, Option, sym, ◌∙◌, ap, subst, inl, inr}
 use Rattle.ct_pm.specs.Images.{History}
 use Rattle.ct_pm.specs.Device.{EachNow, LeavesOnly, SameOff}
+use Rattle.ct_pm.proofs.Made.{makes_none}
 use Rattle.ct_pm.proofs.Told.{started, and_then, weaker}
 use Rattle.ct_base.specs.Settled.{Pair, with_pairs, pairs_at, open_pairs, HaveTargets, IsShut}
-use Rattle.ct_record.specs.Record.{InRecord, SettlesTo, SettlesToEither, AreApart, IsDrafted, IsTouched, IsNoneOrAll}
+use Rattle.ct_record.specs.Record.{InRecord, SettlesTo, SettlesToEither, AreApart, IsDrafted, IsTouched, IsNoneOrAll, StaysInRecord, place_of}
 use Rattle.ct_image.proofs.Pairs.{named_target}
 use Rattle.ct_record.proofs.Lawful.{pairs_shut}
 use Rattle.ct_record.proofs.Settles.{same_refl, same_then, same_wider, settles_shut, applied_alike}
 use Rattle.ct_record.proofs.Moments.{now_of}
 use Rattle.ct_record.proofs.Drafts.{settles_touched, shut_touched}
 
-pub apart_at : (count : ℕ) (words : List ℕ) → HaveTargets 528 count words → AreApart (pairs_at 528 count words)
-apart_at count words targets word named = (named_target 528 count words word targets named).0
+pub apart_at : (count : ℕ) (words : List ℕ) → HaveTargets (place_of count) count words → AreApart (pairs_at (place_of count) count words)
+apart_at count words targets word named = (named_target (place_of count) count words word targets named).0
 
 module _ {was words : List ℕ} {start mid : Option History} (drafted : IsDrafted was words start mid) (pairs : List Pair) (apart : AreApart pairs) where
   pub all_settles : SettlesTo (with_pairs pairs was) (with_pairs pairs words)
@@ -45,13 +46,14 @@ module _ {was words : List ℕ} {start mid : Option History} (drafted : IsDrafte
       (applied_alike pairs armed was (same_wider (λ word inside. inl inside) (same_then same drafted.same))))
 
 -- a draft as it is now
-pub drafted_here : (told : Option History) (count : ℕ) (words : List ℕ) → IsShut words → EachNow told (SameOff (IsTouched count) words) → IsDrafted words words told told
-drafted_here told count words shut images = record {
+pub drafted_here : (told : Option History) (end : ℕ) (words : List ℕ) → end ≤ 16896 → IsShut words → EachNow told (SameOff (IsTouched end) words) → IsDrafted words words told told
+drafted_here told end words high shut images = record {
   was_shut = shut;
   shut = shut;
   same = same_refl words;
-  moments = started told (SettlesTo words) (now_of told (SettlesTo words) (SameOff (IsTouched count) words) (λ image same. settles_touched count words image shut same) images);
-  each_shut = started told IsShut (now_of told IsShut (SameOff (IsTouched count) words) (λ image same. shut_touched count words image shut same) images);
+  moments = started told (SettlesTo words) (now_of told (SettlesTo words) (SameOff (IsTouched end) words) (λ image same. settles_touched end words image high shut same) images);
+  each_shut = started told IsShut (now_of told IsShut (SameOff (IsTouched end) words) (λ image same. shut_touched end words image shut same) images);
+  made = makes_none StaysInRecord told;
 }
 
 -- a whole record behind what was drafted

@@ -1,8 +1,8 @@
 -- What an image settles to while a record is drafted, armed, applied and closed.
-use Rattle.std.specs.Prelude.{◌≡◌, ◌⊎◌, ℕ, ◌+◌, ◌*◌, ◌<◌, ◌≤◌, List, [], Option, length, slice_index}
-use Rattle.ct_base.specs.Settled.{Pair, with_pairs, pairs_at, open_pairs, settled, IsShut, HasPages, HaveTargets, Named}
+use Rattle.std.specs.Prelude.{◌≡◌, ◌⊎◌, ℕ, ◌+◌, ◌*◌, ◌/◌, ◌<◌, ◌≤◌, List, [], Option, Result, OnOk, length, slice_index, ◌≢◌, zero, suc}
+use Rattle.ct_base.specs.Settled.{Pair, with_pairs, pairs_at, open_pairs, settled, IsShut, HasFewPairs, HasPages, HaveTargets, Named, Gives, IsRecord}
 use Rattle.ct_pm.specs.Images.{History}
-use Rattle.ct_pm.specs.Device.{LeavesOnly, SameOff, IsIn}
+use Rattle.ct_pm.specs.Device.{LeavesOnly, MakesOnly, NothingPending, SameOff, IsIn}
 
 -- the word lies in pages 1 to 32
 abbrev pub InRecord : ℕ → Type 0
@@ -53,21 +53,50 @@ StaysInRecord word value = InRecord word
 abbrev pub IsStaging : ℕ → Type 0
 IsStaging word = (16898 ≤ word) × (word < 16906)
 
--- the word is one that count + 1 long pairs may have been stored to
+-- the word is one of the three short pairs, or the short gate
+abbrev pub InLine : ℕ → Type 0
+InLine word = ((520 ≤ word) × (word < 526)) ⊎ (word ≡ 527)
+
+-- where the word lies in pages 1 to 32, it is one of the three short pairs or the short gate
+abbrev pub StaysInLine : ℕ → ℕ → Type 0
+StaysInLine word value = InRecord word → InLine word
+
+-- where so many drafted pairs stand: up to three in the line of the short gate
+unfoldable pub place_of : ℕ → ℕ
+place_of zero = 520
+place_of (suc zero) = 520
+place_of (suc (suc zero)) = 520
+place_of (suc (suc (suc zero))) = 520
+place_of (suc (suc (suc (suc n)))) = 528
+
+-- the word is one that pairs may have been stored to, where the long ones end before a word
 abbrev pub IsTouched : ℕ → ℕ → Type 0
-IsTouched count word = (528 ≤ word) × (word < 530 + 2 * count) × (word < 16896)
+IsTouched end word = (520 ≤ word) × (word < end) × (word ≢ 526) × (word ≢ 527)
 
 -- pairs that may be armed
-pub record IsFull (count : ℕ) (words : List ℕ) : Type 0 where
+pub record IsFull (from count end : ℕ) (words : List ℕ) : Type 0 where
   pub some : 0 < count
   pub few : count ≤ 8184
+  pub low : 528 ≤ end
+  pub high : end ≤ 16896
   pub shut : IsShut words
   pub pages : HasPages words
-  pub targets : HaveTargets 528 count words
+  pub targets : HaveTargets from count words
+
+-- the record is open with all of the pairs, and may be applied
+pub record IsArmed (pairs : List Pair) (words image : List ℕ) : Type 0 where
+  pub pages : HasPages image
+  pub lawful : IsRecord image
+  pub opened : IsOpen image
+  pub all : IsAll pairs words image
 
 -- the first few of the n pairs were applied
 abbrev pub AreApplied : ℕ → ℕ → List ℕ → List ℕ → Type 0
 AreApplied from n was words = (j : ℕ) × (j ≤ n) × (words ≡ with_pairs (pairs_at from j was) was)
+
+-- pair i names a word in the line of a word that one before it names
+abbrev pub SharesLine : ℕ → ℕ → List ℕ → Type 0
+SharesLine from i words = (k : ℕ) × (k < i) × (slice_index words (from + 2 * k) / 8 ≡ slice_index words (from + 2 * i) / 8)
 
 -- where the open pairs stand
 pub record IsPlace (from count : ℕ) (words : List ℕ) : Type 0 where
@@ -82,3 +111,27 @@ pub record IsDrafted (was words : List ℕ) (start told : Option History) : Type
   pub same : SameOff InRecord words was
   pub moments : LeavesOnly start told (SettlesTo was)
   pub each_shut : LeavesOnly start told IsShut
+  pub made : MakesOnly StaysInRecord start told
+
+-- the word lies in pages 1 to 32, or one of the pairs gives it this value
+abbrev pub StaysOrGives : List Pair → ℕ → ℕ → Type 0
+StaysOrGives pairs word value = InRecord word ⊎ Gives pairs word value
+
+-- A record of such pairs that began on the words was and has come to its end, or stopped on the way.
+pub record Concluded {T E : Type 0} (was : List ℕ) (start : Option History) (pairs : List Pair) (count : ℕ) (now : List ℕ) (told : Option History) (result : Result T E) : Type 0 where
+  -- at Ok the pairs stand, and off pages 1 to 32 nothing else changed
+  pub words : OnOk result (SameOff InRecord now (with_pairs pairs was))
+  pub shut : OnOk result (IsShut now)
+  pub settled : OnOk result (NothingPending told)
+  pub pages : OnOk result (HasPages now)
+  -- a crash at any moment leaves what settles to the words before or after, and so do the words as they read
+  pub any_moment : LeavesOnly start told (SettlesToEither pairs was)
+  pub reads : SettlesToEither pairs was now
+  -- the record is lawful in it, with no more pairs than these
+  pub lawful : LeavesOnly start told (HasFewPairs count)
+  pub reads_lawful : HasFewPairs count now
+  -- no other pairs are ever open
+  pub opens : LeavesOnly start told (OpensOnly pairs)
+  pub reads_opens : OpensOnly pairs now
+  -- off pages 1 to 32 each store gives a word the value that one of the pairs has for it
+  pub made : MakesOnly (StaysOrGives pairs) start told

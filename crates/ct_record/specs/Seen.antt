@@ -1,5 +1,5 @@
 -- What callers see of a record in each of its states.
-use Rattle.std.specs.Prelude.{ℕ, Option, List, Result, Ok, Err}
+use Rattle.std.specs.Prelude.{◌≡◌, ◌<◌, ◌≤◌, ℕ, Option, List, Result, Ok, Err}
 use Rattle.ct_base.specs.Settled.{Pair, IsShut, pairs_at, with_pairs}
 use Rattle.ct_pm.specs.Images.{History}
 use Rattle.ct_pm.specs.Device.{SameOff, MakesOnly, LeavesOnly}
@@ -8,7 +8,7 @@ use Rattle.ct_record.specs.declared.idle.Broken.{Broken}
 use Rattle.ct_record.specs.declared.draft.Draft.{Draft}
 use Rattle.ct_record.specs.declared.armed.Armed.{Armed}
 use Rattle.ct_record.specs.declared.applied.Applied.{Applied}
-use Rattle.ct_record.specs.Record.{InRecord, SettlesTo, StaysInRecord}
+use Rattle.ct_record.specs.Record.{InRecord, SettlesTo, StaysInLine, StaysInRecord, place_of}
 
 -- the device that each state owns
 abbrev pub idle_dev : {D : Type 0} {bound : _} → Idle D bound → D
@@ -36,6 +36,11 @@ abbrev pub after_finish : {D : Type 0} {bound : _} → Result (Idle D bound) (Br
 after_finish (Ok idle) = idle.dev
 after_finish (Err broken) = broken.dev
 
+-- the device behind either answer of a whole record
+abbrev pub device_behind : {D : Type 0} → Result D (Broken D) → D
+device_behind (Ok dev) = dev
+device_behind (Err broken) = broken.dev
+
 -- how many pairs a draft has
 abbrev pub count_of : {D : Type 0} {bound : _} → Draft D bound → ℕ
 count_of draft = draft.count
@@ -52,7 +57,11 @@ faults_under {bound = bound} draft = bound.faults draft.dev
 
 -- the pairs, the newest first
 abbrev pub pairs_of : {D : Type 0} {bound : _} → Draft D bound → List Pair
-pairs_of {bound = bound} draft = pairs_at 528 draft.count (bound.words draft.dev)
+pairs_of {bound = bound} draft = pairs_at (place_of draft.count) draft.count (bound.words draft.dev)
+
+-- no fourth pair was begun: what was stored lies in the line of the short gate
+abbrev pub IsShort : {D : Type 0} {bound : _} → Draft D bound → Type 0
+IsShort draft = draft.end ≡ 528
 
 -- the words under a draft, once its pairs are applied
 abbrev pub drafted : {D : Type 0} {bound : _} → Draft D bound → List ℕ
@@ -68,3 +77,8 @@ pub record Drafts {D : Type 0} {bound : _} (old new : Draft D bound) : Type 0 wh
   pub reads : SettlesTo (words_under old) (words_under new)
   -- and both gates are closed in it
   pub shut : LeavesOnly (told_under old) (told_under new) IsShut
+  -- a draft in which no fourth pair was begun began as one, and since then only words of its line were stored
+  pub short : IsShort new → IsShort old × MakesOnly StaysInLine (told_under old) (told_under new)
+  -- no pair is dropped, and while there are fewer than three no fourth was begun
+  pub more : count_of old ≤ count_of new
+  pub few : IsShort old → count_of new < 3 → IsShort new

@@ -3,7 +3,7 @@ ghost use Rattle.std.proofs.Props.{props};
 ghost use Rattle.ct_base.specs.Causes.{HasCause};
 ghost use Rattle.ct_base.specs.Settled.{open_pairs, HasFewPairs, HasPages, IsShut, IsRecord};
 ghost use Rattle.ct_pm.specs.Device.{LeavesOnly, MakesOnly, NothingPending, SameOff};
-ghost use Rattle.ct_record.specs.Record.{IsOpen, OpensOnly, Stand, InRecord, StaysInRecord, SettlesTo};
+ghost use Rattle.ct_record.specs.Record.{IsOpen, OpensOnly, Stand, InRecord, StaysInLine, StaysInRecord, SettlesTo};
 
 use crate::gate::close_gate;
 use crate::{Broken, Idle};
@@ -61,6 +61,9 @@ impl<D: Pm> Applied<D> {
         ensures opens { LeavesOnly (D.told (applied_dev self)) (D.told (after_finish result)) (OpensOnly (open_pairs (D.words (applied_dev self)))) }
         ensures reads_opens { OpensOnly (open_pairs (D.words (applied_dev self))) (D.words (after_finish result)) }
         ensures cause { HasCause (D.faults (applied_dev self)) (D.faults (after_finish result)) result }
+
+        // Where the long gate is closed, no word of pages 1 to 32 is stored to but those of the short record.
+        ensures in_line { slice_index (D.words (applied_dev self)) 512 ≡ 0 → MakesOnly StaysInLine (D.told (applied_dev self)) (D.told (after_finish result)) }
     {
         let Applied { mut dev } = self;
         match close_gate(&mut dev) {

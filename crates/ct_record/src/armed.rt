@@ -3,7 +3,7 @@ ghost use Rattle.std.proofs.Props.{props};
 ghost use Rattle.ct_base.specs.Causes.{HasCause};
 ghost use Rattle.ct_base.specs.Settled.{HasFewPairs, HasPages, IsRecord, with_pairs, open_pairs};
 ghost use Rattle.ct_pm.specs.Device.{LeavesOnly, MakesOnly, NothingPending};
-ghost use Rattle.ct_record.specs.Record.{IsOpen, OpensOnly, SettlesTo};
+ghost use Rattle.ct_record.specs.Record.{IsOpen, OpensOnly, SettlesTo, StaysInLine};
 ghost use Rattle.ct_base.specs.Settled.{Gives};
 
 use crate::pair::apply_record;
@@ -61,6 +61,9 @@ impl<D: Pm> Armed<D> {
         // At a fault the oldest pairs were applied, all but a few.
         ensures part { OnErr result ((k : ℕ) × (D.words (after_apply result) ≡ with_pairs (drop k (open_pairs (D.words (armed_dev self)))) (D.words (armed_dev self)))) }
         ensures cause { HasCause (D.faults (armed_dev self)) (D.faults (after_apply result)) result }
+
+        // Of pages 1 to 32 no word is stored to but those of the short record.
+        ensures in_line { MakesOnly StaysInLine (D.told (armed_dev self)) (D.told (after_apply result)) }
     {
         let Armed { mut dev } = self;
         match apply_record(&mut dev) {

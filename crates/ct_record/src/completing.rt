@@ -2,8 +2,8 @@ ghost use Rattle.std.specs.Prelude.{◌≡◌, ◌<◌, ◌⊎◌, OnOk};
 ghost use Rattle.ct_base.specs.Causes.{HasCause};
 ghost use Rattle.ct_base.specs.Settled.{HasFewPairs, IsShut, Gives, with_pairs};
 ghost use Rattle.ct_pm.specs.Device.{LeavesOnly, MakesOnly, NothingPending, SameOff};
-ghost use Rattle.ct_record.specs.Record.{InRecord, OpensOnly, SettlesToEither};
-ghost use Rattle.ct_record.specs.Seen.{count_of, pairs_of, words_under, told_under, faults_under, after_finish};
+ghost use Rattle.ct_record.specs.Record.{InRecord, OpensOnly, SettlesToEither, StaysInLine};
+ghost use Rattle.ct_record.specs.Seen.{count_of, pairs_of, words_under, told_under, faults_under, after_finish, IsShort};
 
 use crate::{Broken, Draft, Idle};
 use ct_pm::Pm;
@@ -36,6 +36,9 @@ pub fn complete<D: Pm>(draft: Draft<D>) -> Result<Idle<D>, Broken<D>>
     // Off pages 1 to 32 each store gives a word the value that one of the pairs has for it.
     ensures made { MakesOnly (λ word value. InRecord word ⊎ Gives (pairs_of draft) word value) (told_under draft) (D.told (after_finish result)) }
     ensures cause { HasCause (faults_under draft) (D.faults (after_finish result)) result }
+
+    // Where no fourth pair was begun, no word of pages 1 to 32 is stored but those of the short record.
+    ensures in_line { IsShort draft → MakesOnly StaysInLine (told_under draft) (D.told (after_finish result)) }
 {
     let armed = match draft.arm() {
         Ok(armed) => armed,

@@ -2,27 +2,34 @@ ghost use Rattle.std.specs.Prelude.{◌≡◌, ◌<◌, ◌≤◌, ◌+◌, ◌*
 ghost use Rattle.std.proofs.Props.{props};
 ghost use Rattle.ct_base.specs.Causes.{HasCause};
 ghost use Rattle.ct_base.specs.Settled.{HasFewPairs, HasPages, IsShut, HaveTargets, IsTarget, with_pairs};
-ghost use Rattle.ct_pm.specs.Device.{EachNow, SameOff, LeavesOnly, MakesOnly, NothingPending};
-ghost use Rattle.ct_record.specs.Record.{IsTouched, InRecord, SettlesTo, StaysInRecord, IsAll, IsNoneOrAll};
+ghost use Rattle.ct_pm.specs.Device.{with_steps, EachNow, SameOff, LeavesOnly, MakesOnly, NothingPending};
+ghost use Rattle.ct_pm.specs.declared.step.Step.TheVariants.{Store, Flush, Fence};
+ghost use Rattle.ct_record.specs.Record.{IsTouched, InRecord, SettlesTo, StaysInLine, StaysInRecord, IsAll, IsNoneOrAll, place_of};
 
 use crate::gate::open_gate;
-use crate::pair::{put_pair, value_after};
+use crate::pair::{drafted_at, end_with, put_next, value_after};
 use crate::{Armed, Broken, Idle};
 use ct_pm::{Pm, PmFault};
 
-/// A record that is being written: both gates are closed in every image, while pairs are stored behind the long one.
+/// A record that is being written: both gates are closed in every image, while pairs are stored behind the short one, and
+/// from the fourth on behind the long one.
 pub struct Draft<D: Pm> {
     dev: D,
     count: u64,
-    ghost images: { EachNow (D.told dev) (SameOff (IsTouched count) (D.words dev)) } by { Prim.hlevel props },
+    // Where the long pairs end that may have been stored. It is 528 where there are none.
+    end: u64,
+    ghost images: { EachNow (D.told dev) (SameOff (IsTouched end) (D.words dev)) } by { Prim.hlevel props },
     ghost shut: { IsShut (D.words dev) },
     ghost pages: { HasPages (D.words dev) },
-    ghost targets: { HaveTargets 528 count (D.words dev) },
+    ghost targets: { HaveTargets (place_of count) count (D.words dev) },
     ghost few: { count ≤ 8184 },
+    ghost low: { 528 ≤ end },
+    ghost high: { end ≤ 16896 },
+    ghost short: { end ≡ 528 → count ≤ 3 },
 }
 
 impl<D: Pm> Draft<D> {
-    ghost use Rattle.ct_record.specs.Seen.{idle_dev, draft_dev, count_of, pairs_of, words_under, told_under, faults_under, Drafts, after_arm};
+    ghost use Rattle.ct_record.specs.Seen.{idle_dev, draft_dev, count_of, pairs_of, words_under, told_under, faults_under, Drafts, IsShort, after_arm};
 
     /// A draft with no pairs.
     pub fn begin(idle: Idle<D>) -> Draft<D>
@@ -30,9 +37,14 @@ impl<D: Pm> Draft<D> {
         ensures count { count_of result ≡ 0 }
         ensures pairs { pairs_of result ≡ [] }
         ensures settles { EachNow (told_under result) (SettlesTo (words_under result)) }
+        ensures short { IsShort result }
     {
         let dev = idle.into_dev();
-        Draft { dev, count: 0 }
+        Draft {
+            dev,
+            count: 0,
+            end: 528,
+        }
     }
 
     /// The device under the draft, on which no pair is applied yet.
@@ -54,10 +66,10 @@ impl<D: Pm> Draft<D> {
         requires { word < length (words_under self.now) }
         ensures { result ≡ slice_index (with_pairs (pairs_of self.now) (words_under self.now)) word }
     {
-        value_after(&self.dev, 528, self.count, word)
+        value_after(&self.dev, drafted_at(self.count), self.count, word)
     }
 
-    /// Adds a pair, the newest, by two stores.
+    /// Adds a pair, the newest, by two stores. The fourth pair is stored with the three before it, as long pairs.
     ///
     /// # Errors
     ///
@@ -73,8 +85,13 @@ impl<D: Pm> Draft<D> {
 
         ensures drafts { Drafts self.old self.new }
         ensures cause { HasCause (faults_under self.old) (faults_under self.new) result }
+
+        // The first three pairs are stored in the line of the short gate, whether the device fails or not.
+        ensures short { IsShort self.old → count_of self.old < 3 → IsShort self.new }
+        ensures in_line { IsShort self.old → count_of self.old < 3 → MakesOnly StaysInLine (told_under self.old) (told_under self.new) }
     {
-        put_pair(&mut self.dev, self.count, word, value)?;
+        self.end = end_with(self.end, self.count);
+        put_next(&mut self.dev, self.count, self.end, word, value)?;
         self.count += 1;
         Ok(())
     }
@@ -87,11 +104,16 @@ impl<D: Pm> Draft<D> {
         ensures settles { EachNow (D.told result) (SettlesTo (D.words result)) }
         ensures pages { HasPages (D.words result) }
     {
-        let Draft { dev, count: _ } = self;
+        let Draft {
+            dev,
+            count: _,
+            end: _,
+        } = self;
         dev
     }
 
-    /// Opens the gate: flushes each line of the pairs once, fences, and commits the gate.
+    /// Opens the gate. Of up to three pairs, where no fourth was begun, the gate is stored, its line is flushed, and one fence
+    /// is made. Else the lines of the pairs are flushed once before, and of a long record fenced.
     ///
     /// # Errors
     ///
@@ -116,9 +138,18 @@ impl<D: Pm> Draft<D> {
         ensures same { SameOff InRecord (D.words (after_arm result)) (words_under self) }
         ensures made { MakesOnly StaysInRecord (told_under self) (D.told (after_arm result)) }
         ensures cause { HasCause (faults_under self) (D.faults (after_arm result)) result }
+
+        // Where no fourth pair was begun, one line is armed by three steps, and the long gate stays closed.
+        ensures three { OnOk result (IsShort self → D.told (after_arm result) ≡ with_steps (Fence ∷ Flush 65 ∷ Store 527 (count_of self) ∷ []) (told_under self)) }
+        ensures in_line { IsShort self → MakesOnly StaysInLine (told_under self) (D.told (after_arm result)) }
+        ensures closed { OnOk result (IsShort self → slice_index (D.words (after_arm result)) 512 ≡ 0) }
     {
-        let Draft { mut dev, count } = self;
-        match open_gate(&mut dev, count) {
+        let Draft {
+            mut dev,
+            count,
+            end,
+        } = self;
+        match open_gate(&mut dev, count, end) {
             Ok(()) => Ok(Armed::of(dev)),
             Err(_) => Err(Broken { dev }),
         }

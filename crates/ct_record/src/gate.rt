@@ -1,18 +1,19 @@
 // The gates of the record.
-ghost use Rattle.std.specs.Prelude.{◌≡◌, OnOk, OnErr, slice_index, slice_set};
+ghost use Rattle.std.specs.Prelude.{◌≡◌, ◌≤◌, [], ◌∷◌, OnOk, OnErr, slice_index};
 ghost use Rattle.ct_base.specs.Causes.{HasCause};
 ghost use Rattle.ct_base.specs.Settled.{open_pairs, pairs_at, HasFewPairs, HasPages, IsShut, IsRecord};
-ghost use Rattle.ct_pm.specs.Device.{EachNow, LeavesOnly, MakesOnly, NothingPending, SameOff};
-ghost use Rattle.ct_record.specs.Record.{IsTouched, InRecord, IsFull, IsNoneOrAll, IsOpen, OpensOnly, Stand, SettlesTo, StaysInRecord};
+ghost use Rattle.ct_pm.specs.Device.{with_steps, EachNow, LeavesOnly, MakesOnly, NothingPending, SameOff};
+ghost use Rattle.ct_pm.specs.declared.step.Step.TheVariants.{Store, Flush, Fence};
+ghost use Rattle.ct_record.specs.Record.{place_of, IsArmed, StaysInLine, IsTouched, InRecord, IsFull, IsNoneOrAll, IsOpen, OpensOnly, Stand, SettlesTo, StaysInRecord};
 
 use ct_pm::{Pm, PmFault, commit, flush_lines};
 
 // Flushes the lines of the pairs, fences, and opens the long gate.
-pub fn open_gate<D: Pm>(dev: &mut D, count: u64) -> Result<(), PmFault>
-    requires full { IsFull count (D.words dev.old) }
-    requires images { EachNow (D.told dev.old) (SameOff (IsTouched count) (D.words dev.old)) }
+fn open_long<D: Pm>(dev: &mut D, count: u64, end: u64) -> Result<(), PmFault>
+    requires full { IsFull 528 count end (D.words dev.old) }
+    requires images { EachNow (D.told dev.old) (SameOff (IsTouched end) (D.words dev.old)) }
 
-    ensures words { OnOk result (D.words dev.new ≡ slice_set (D.words dev.old) 512 count) }
+    ensures armed { OnOk result (IsArmed (pairs_at 528 count (D.words dev.old)) (D.words dev.old) (D.words dev.new)) }
     ensures settled { OnOk result (NothingPending (D.told dev.new)) }
     ensures any_moment { LeavesOnly (D.told dev.old) (D.told dev.new) (IsNoneOrAll (pairs_at 528 count (D.words dev.old)) (D.words dev.old)) }
     ensures made { MakesOnly StaysInRecord (D.told dev.old) (D.told dev.new) }
@@ -22,10 +23,61 @@ pub fn open_gate<D: Pm>(dev: &mut D, count: u64) -> Result<(), PmFault>
     ensures same { SameOff InRecord (D.words dev.new) (D.words dev.old) }
     ensures cause { HasCause (D.faults dev.old) (D.faults dev.new) result }
 {
-    let last = ((529 + 2 * count) / 8).min(2111);
-    flush_lines(dev, 66, last + 1)?;
+    flush_lines(dev, 65, end.div_ceil(8))?;
     dev.fence()?;
     commit(dev, 512, count)
+}
+
+// Opens the short gate over pairs of its line that are not fenced yet. Lines of long pairs, where a fourth was begun, are
+// flushed before.
+fn open_short<D: Pm>(dev: &mut D, count: u64, end: u64) -> Result<(), PmFault>
+    requires full { IsFull 520 count end (D.words dev.old) }
+    requires short { count ≤ 3 }
+    requires images { EachNow (D.told dev.old) (SameOff (IsTouched end) (D.words dev.old)) }
+
+    ensures armed { OnOk result (IsArmed (pairs_at 520 count (D.words dev.old)) (D.words dev.old) (D.words dev.new)) }
+    ensures settled { OnOk result (NothingPending (D.told dev.new)) }
+    ensures any_moment { LeavesOnly (D.told dev.old) (D.told dev.new) (IsNoneOrAll (pairs_at 520 count (D.words dev.old)) (D.words dev.old)) }
+    ensures made { MakesOnly StaysInRecord (D.told dev.old) (D.told dev.new) }
+    ensures reads { IsNoneOrAll (pairs_at 520 count (D.words dev.old)) (D.words dev.old) (D.words dev.new) }
+    ensures lawful { LeavesOnly (D.told dev.old) (D.told dev.new) (HasFewPairs count) }
+    ensures reads_lawful { HasFewPairs count (D.words dev.new) }
+    ensures same { SameOff InRecord (D.words dev.new) (D.words dev.old) }
+    ensures cause { HasCause (D.faults dev.old) (D.faults dev.new) result }
+
+    ensures three { OnOk result (end ≡ 528 → D.told dev.new ≡ with_steps (Fence ∷ Flush 65 ∷ Store 527 count ∷ []) (D.told dev.old)) }
+    ensures in_line { MakesOnly StaysInLine (D.told dev.old) (D.told dev.new) }
+    ensures closed { OnOk result (slice_index (D.words dev.new) 512 ≡ 0) }
+{
+    flush_lines(dev, 66, end.div_ceil(8))?;
+    dev.store(527, count)?;
+    dev.flush(65)?;
+    dev.fence()
+}
+
+// Opens the gate behind which so many pairs stand.
+pub fn open_gate<D: Pm>(dev: &mut D, count: u64, end: u64) -> Result<(), PmFault>
+    requires full { IsFull (place_of count) count end (D.words dev.old) }
+    requires images { EachNow (D.told dev.old) (SameOff (IsTouched end) (D.words dev.old)) }
+
+    ensures armed { OnOk result (IsArmed (pairs_at (place_of count) count (D.words dev.old)) (D.words dev.old) (D.words dev.new)) }
+    ensures settled { OnOk result (NothingPending (D.told dev.new)) }
+    ensures any_moment { LeavesOnly (D.told dev.old) (D.told dev.new) (IsNoneOrAll (pairs_at (place_of count) count (D.words dev.old)) (D.words dev.old)) }
+    ensures made { MakesOnly StaysInRecord (D.told dev.old) (D.told dev.new) }
+    ensures reads { IsNoneOrAll (pairs_at (place_of count) count (D.words dev.old)) (D.words dev.old) (D.words dev.new) }
+    ensures lawful { LeavesOnly (D.told dev.old) (D.told dev.new) (HasFewPairs count) }
+    ensures reads_lawful { HasFewPairs count (D.words dev.new) }
+    ensures same { SameOff InRecord (D.words dev.new) (D.words dev.old) }
+    ensures cause { HasCause (D.faults dev.old) (D.faults dev.new) result }
+
+    ensures three { OnOk result (count ≤ 3 → end ≡ 528 → D.told dev.new ≡ with_steps (Fence ∷ Flush 65 ∷ Store 527 count ∷ []) (D.told dev.old)) }
+    ensures in_line { count ≤ 3 → MakesOnly StaysInLine (D.told dev.old) (D.told dev.new) }
+    ensures closed { OnOk result (count ≤ 3 → slice_index (D.words dev.new) 512 ≡ 0) }
+{
+    if count > 3 {
+        return open_long(dev, count, end);
+    }
+    open_short(dev, count, end)
 }
 
 // Closes the gate of a record whose pairs stand.
@@ -47,6 +99,7 @@ pub fn close_gate<D: Pm>(dev: &mut D) -> Result<(), PmFault>
     ensures opens { LeavesOnly (D.told dev.old) (D.told dev.new) (OpensOnly (open_pairs (D.words dev.old))) }
     ensures reads_opens { OpensOnly (open_pairs (D.words dev.old)) (D.words dev.new) }
     ensures cause { HasCause (D.faults dev.old) (D.faults dev.new) result }
+    ensures in_line { slice_index (D.words dev.old) 512 ≡ 0 → MakesOnly StaysInLine (D.told dev.old) (D.told dev.new) }
 {
     if dev.load(512) > 0 {
         return commit(dev, 512, 0);

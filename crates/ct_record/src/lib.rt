@@ -12,13 +12,16 @@ pub mod applied;
 pub mod armed;
 pub mod completing;
 pub mod draft;
+pub mod ending;
 mod gate;
 pub mod idle;
 mod pair;
-pub mod replay;
+mod replaying;
 
 pub use applied::Applied;
 pub use armed::Armed;
 pub use completing::complete;
 pub use draft::Draft;
+pub use ending::conclude;
 pub use idle::{Broken, Idle};
+pub use replaying::replay;

@@ -1,9 +1,9 @@
 // Pairs on the device: where they are stored, read and applied.
-ghost use Rattle.std.specs.Prelude.{◌≡◌, ◌<◌, ◌≤◌, ◌+◌, ◌*◌, ◌/◌, ◌⊎◌, ℕ, OnOk, OnErr, length, drop, slice_index, slice_set};
+ghost use Rattle.std.specs.Prelude.{◌≡◌, ◌<◌, ◌≤◌, ◌+◌, ◌*◌, ◌/◌, ◌⊎◌, ◌∷◌, ℕ, IsTrue, OnOk, OnErr, length, drop, slice_index, slice_set};
 ghost use Rattle.ct_base.specs.Causes.{HasCause};
-ghost use Rattle.ct_base.specs.Settled.{with_pairs, pairs_at, open_pairs, HasFewPairs, HasPages, IsShut, IsTarget, HaveTargets, IsRecord};
-ghost use Rattle.ct_pm.specs.Device.{EachNow, LeavesOnly, MakesOnly, NothingPending, QuietOff, SameOff, WrittenBack, IsIn};
-ghost use Rattle.ct_record.specs.Record.{IsTouched, AreApplied, IsPlace, OpensOnly, SettlesTo, StaysInRecord};
+ghost use Rattle.ct_base.specs.Settled.{with_pairs, pairs_at, open_pairs, HasFewPairs, HasPages, HaveTargets, IsRecord};
+ghost use Rattle.ct_pm.specs.Device.{LeavesOnly, MakesOnly, NothingPending, QuietOff, SameOff, WrittenBack, IsIn};
+ghost use Rattle.ct_record.specs.Record.{IsTouched, AreApplied, IsPlace, OpensOnly, SettlesTo, SharesLine, StaysInLine, place_of};
 ghost use Rattle.ct_base.specs.Settled.{Named, Gives};
 
 use ct_pm::{Pm, PmFault};
@@ -24,45 +24,183 @@ pub fn value_after<D: Pm>(dev: &D, from: u64, count: u64, word: u64) -> u64
     dev.load(word)
 }
 
-// Stores one pair behind the closed gate.
-pub fn put_pair<D: Pm>(dev: &mut D, count: u64, word: u64, value: u64) -> Result<(), PmFault>
-    requires room { count < 8184 }
-    requires target { IsTarget (D.words dev.old) word }
-    requires images { EachNow (D.told dev.old) (SameOff (IsTouched count) (D.words dev.old)) }
-    requires shut { IsShut (D.words dev.old) }
-    requires pages { HasPages (D.words dev.old) }
-    requires targets { HaveTargets 528 count (D.words dev.old) }
-
-    ensures images { EachNow (D.told dev.new) (SameOff (IsTouched count) (D.words dev.new)) }
-    ensures same { SameOff (IsIn (528 + 2 * count) 2) (D.words dev.new) (D.words dev.old) }
-    ensures quiet { QuietOff (IsIn (528 + 2 * count) 2) (D.told dev.old) (D.told dev.new) }
-    ensures made { MakesOnly StaysInRecord (D.told dev.old) (D.told dev.new) }
-    ensures word { OnOk result (slice_index (D.words dev.new) (528 + 2 * count) ≡ word) }
-    ensures value { OnOk result (slice_index (D.words dev.new) (528 + 2 * count + 1) ≡ value) }
-    ensures cause { HasCause (D.faults dev.old) (D.faults dev.new) result }
+// Where so many drafted pairs stand.
+pub fn drafted_at(count: u64) -> u64
+    ensures { result ≡ place_of count }
 {
-    dev.store(528 + 2 * count, word)?;
-    dev.store(528 + 2 * count + 1, value)
+    if count > 3 {
+        return 528;
+    }
+    520
 }
 
-// Applies the pair that stands at two words, and flushes its line.
-fn apply_pair<D: Pm>(dev: &mut D, at: u64) -> Result<(), PmFault>
+// Where the long pairs end that may be stored, once a pair is added to so many.
+pub fn end_with(end: u64, count: u64) -> u64
+    requires room { count < 8184 }
+    ensures least { end ≤ result }
+    ensures short { count < 3 → result ≡ end }
+    ensures long { 3 ≤ count → 530 + 2 * count ≤ result }
+    ensures high { end ≤ 16896 → result ≤ 16896 }
+{
+    if count < 3 {
+        return end;
+    }
+    end.max(530 + 2 * count)
+}
+
+// Stores one pair at two words behind the closed gates.
+fn put_pair<D: Pm>(dev: &mut D, at: u64, word: u64, value: u64) -> Result<(), PmFault>
+    requires within { at + 1 < length (D.words dev.old) }
+    ensures word { OnOk result (slice_index (D.words dev.new) at ≡ word) }
+    ensures value { OnOk result (slice_index (D.words dev.new) (at + 1) ≡ value) }
+    ensures same { SameOff (IsIn at 2) (D.words dev.new) (D.words dev.old) }
+    ensures quiet { QuietOff (IsIn at 2) (D.told dev.old) (D.told dev.new) }
+    ensures made { MakesOnly (λ word value. IsIn at 2 word) (D.told dev.old) (D.told dev.new) }
+    ensures cause { HasCause (D.faults dev.old) (D.faults dev.new) result }
+{
+    dev.store(at, word)?;
+    dev.store(at + 1, value)
+}
+
+// Stores the three short pairs again as long ones.
+fn spill<D: Pm>(dev: &mut D) -> Result<(), PmFault>
+    requires pages { HasPages (D.words dev.old) }
+    ensures pairs { OnOk result (pairs_at 528 3 (D.words dev.new) ≡ pairs_at 520 3 (D.words dev.old)) }
+    ensures same { SameOff (IsIn 528 6) (D.words dev.new) (D.words dev.old) }
+    ensures quiet { QuietOff (IsIn 528 6) (D.told dev.old) (D.told dev.new) }
+    ensures made { MakesOnly (λ word value. IsIn 528 6 word) (D.told dev.old) (D.told dev.new) }
+    ensures cause { HasCause (D.faults dev.old) (D.faults dev.new) result }
+{
+    for k in 0..3 {
+        let word = dev.load(520 + 2 * k);
+        let value = dev.load(520 + 2 * k + 1);
+        put_pair(dev, 528 + 2 * k, word, value)?;
+    }
+    Ok(())
+}
+
+// Stores the three short pairs as long ones, and a fourth behind them.
+fn put_fourth<D: Pm>(dev: &mut D, word: u64, value: u64) -> Result<(), PmFault>
+    requires pages { HasPages (D.words dev.old) }
+    ensures pairs { OnOk result (pairs_at 528 4 (D.words dev.new) ≡ record { word = word; value = value } ∷ pairs_at 520 3 (D.words dev.old)) }
+    ensures same { SameOff (IsIn 528 8) (D.words dev.new) (D.words dev.old) }
+    ensures quiet { QuietOff (IsIn 528 8) (D.told dev.old) (D.told dev.new) }
+    ensures made { MakesOnly (λ word value. IsIn 528 8 word) (D.told dev.old) (D.told dev.new) }
+    ensures cause { HasCause (D.faults dev.old) (D.faults dev.new) result }
+{
+    spill(dev)?;
+    put_pair(dev, 534, word, value)
+}
+
+// Stores one pair more: the first three in the line of the short gate, the fourth with these three as long pairs.
+pub fn put_next<D: Pm>(
+    dev: &mut D,
+    count: u64,
+    end: u64,
+    word: u64,
+    value: u64,
+) -> Result<(), PmFault>
+    requires room { count < 8184 }
+    requires pages { HasPages (D.words dev.old) }
+    requires low { 528 ≤ end }
+    requires long { 3 ≤ count → 530 + 2 * count ≤ end }
+
+    ensures added { OnOk result (pairs_at (place_of (count + 1)) (count + 1) (D.words dev.new) ≡ record { word = word; value = value } ∷ pairs_at (place_of count) count (D.words dev.old)) }
+    ensures kept { pairs_at (place_of count) count (D.words dev.new) ≡ pairs_at (place_of count) count (D.words dev.old) }
+    ensures same { SameOff (IsTouched end) (D.words dev.new) (D.words dev.old) }
+    ensures quiet { QuietOff (IsTouched end) (D.told dev.old) (D.told dev.new) }
+    ensures made { MakesOnly (λ word value. IsTouched end word) (D.told dev.old) (D.told dev.new) }
+    ensures cause { HasCause (D.faults dev.old) (D.faults dev.new) result }
+{
+    if count < 3 {
+        return put_pair(dev, 520 + 2 * count, word, value);
+    }
+    if count == 3 {
+        return put_fourth(dev, word, value);
+    }
+    put_pair(dev, 528 + 2 * count, word, value)
+}
+
+// Stores the value of the pair that stands at two words.
+fn store_pair<D: Pm>(dev: &mut D, at: u64) -> Result<(), PmFault>
     requires pair { at + 1 < length (D.words dev.old) }
     requires target { slice_index (D.words dev.old) at < length (D.words dev.old) }
 
     ensures words { OnOk result (D.words dev.new ≡ slice_set (D.words dev.old) (slice_index (D.words dev.old) at) (slice_index (D.words dev.old) (at + 1))) }
     ensures quiet { QuietOff (λ word. word ≡ slice_index (D.words dev.old) at) (D.told dev.old) (D.told dev.new) }
     ensures made { MakesOnly (λ word value. (word ≡ slice_index (D.words dev.old) at) × (value ≡ slice_index (D.words dev.old) (at + 1))) (D.told dev.old) (D.told dev.new) }
-    ensures back { OnOk result (WrittenBack (D.told dev.new) (slice_index (D.words dev.old) at / 8)) }
-    ensures still_back { OnOk result ((line : ℕ) → WrittenBack (D.told dev.old) line → WrittenBack (D.told dev.new) line) }
-    ensures err { OnErr result ((D.words dev.new ≡ D.words dev.old) ⊎
-        (D.words dev.new ≡ slice_set (D.words dev.old) (slice_index (D.words dev.old) at) (slice_index (D.words dev.old) (at + 1)))) }
+    ensures err { OnErr result (D.words dev.new ≡ D.words dev.old) }
     ensures cause { HasCause (D.faults dev.old) (D.faults dev.new) result }
 {
     let word = dev.load(at);
     let value = dev.load(at + 1);
-    dev.store(word, value)?;
-    dev.flush(word / 8)
+    dev.store(word, value)
+}
+
+// Stores the values of the pairs, in order.
+fn store_pairs<D: Pm>(dev: &mut D, from: u64, count: u64) -> Result<(), PmFault>
+    requires inside { from + 2 * count ≤ 16896 }
+    requires pages { HasPages (D.words dev.old) }
+    requires targets { HaveTargets from count (D.words dev.old) }
+
+    ensures words { OnOk result (D.words dev.new ≡ with_pairs (pairs_at from count (D.words dev.old)) (D.words dev.old)) }
+    ensures quiet { QuietOff (Named (pairs_at from count (D.words dev.old))) (D.told dev.old) (D.told dev.new) }
+    ensures made { MakesOnly (Gives (pairs_at from count (D.words dev.old))) (D.told dev.old) (D.told dev.new) }
+    ensures err { OnErr result (AreApplied from count (D.words dev.old) (D.words dev.new)) }
+    ensures cause { HasCause (D.faults dev.old) (D.faults dev.new) result }
+{
+    for i in 0..count {
+        store_pair(dev, from + 2 * i)?;
+    }
+    Ok(())
+}
+
+// Whether one of the two pairs before names a word of the line in which this one's word lies.
+fn shares_line<D: Pm>(dev: &D, from: u64, i: u64) -> bool
+    requires { from + 2 * i < length (D.words dev.now) }
+    ensures { IsTrue result → SharesLine from i (D.words dev.now) }
+{
+    let line = dev.load(from + 2 * i) / 8;
+    if i >= 1 && dev.load(from + 2 * (i - 1)) / 8 == line {
+        return true;
+    }
+    i >= 2 && dev.load(from + 2 * (i - 2)) / 8 == line
+}
+
+// Flushes the line of the word that a pair names, but where one of the two pairs before names a word of the same line.
+fn flush_pair<D: Pm>(dev: &mut D, from: u64, i: u64) -> Result<(), PmFault>
+    requires inside { from + 2 * i < length (D.words dev.old) }
+    requires target { slice_index (D.words dev.old) (from + 2 * i) < length (D.words dev.old) }
+
+    ensures words { D.words dev.new ≡ D.words dev.old }
+    ensures quiet { QuietOff (λ _. ⊥) (D.told dev.old) (D.told dev.new) }
+    ensures made { MakesOnly (λ at put. ⊥) (D.told dev.old) (D.told dev.new) }
+    ensures back { OnOk result (SharesLine from i (D.words dev.old) ⊎ WrittenBack (D.told dev.new) (slice_index (D.words dev.old) (from + 2 * i) / 8)) }
+    ensures still_back { (line : ℕ) → WrittenBack (D.told dev.old) line → WrittenBack (D.told dev.new) line }
+    ensures cause { HasCause (D.faults dev.old) (D.faults dev.new) result }
+{
+    if shares_line(dev, from, i) {
+        return Ok(());
+    }
+    let line = dev.load(from + 2 * i) / 8;
+    dev.flush(line)
+}
+
+// Flushes the line of each word that the pairs name.
+fn flush_pairs<D: Pm>(dev: &mut D, from: u64, count: u64) -> Result<(), PmFault>
+    requires inside { from + 2 * count ≤ length (D.words dev.old) }
+    requires targets { (k : ℕ) → k < count → slice_index (D.words dev.old) (from + 2 * k) < length (D.words dev.old) }
+
+    ensures words { D.words dev.new ≡ D.words dev.old }
+    ensures quiet { QuietOff (λ _. ⊥) (D.told dev.old) (D.told dev.new) }
+    ensures made { MakesOnly (λ at put. ⊥) (D.told dev.old) (D.told dev.new) }
+    ensures back { OnOk result ((k : ℕ) → k < count → WrittenBack (D.told dev.new) (slice_index (D.words dev.old) (from + 2 * k) / 8)) }
+    ensures cause { HasCause (D.faults dev.old) (D.faults dev.new) result }
+{
+    for i in 0..count {
+        flush_pair(dev, from, i)?;
+    }
+    Ok(())
 }
 
 // Applies the pairs in order, and flushes their lines.
@@ -78,10 +216,8 @@ fn apply_pairs<D: Pm>(dev: &mut D, from: u64, count: u64) -> Result<(), PmFault>
     ensures err { OnErr result (AreApplied from count (D.words dev.old) (D.words dev.new)) }
     ensures cause { HasCause (D.faults dev.old) (D.faults dev.new) result }
 {
-    for i in 0..count {
-        apply_pair(dev, from + 2 * i)?;
-    }
-    Ok(())
+    store_pairs(dev, from, count)?;
+    flush_pairs(dev, from, count)
 }
 
 // Where the open pairs stand.
@@ -121,6 +257,7 @@ pub fn apply_record<D: Pm>(dev: &mut D) -> Result<(), PmFault>
     ensures opens { LeavesOnly (D.told dev.old) (D.told dev.new) (OpensOnly (open_pairs (D.words dev.old))) }
     ensures reads_opens { OpensOnly (open_pairs (D.words dev.old)) (D.words dev.new) }
     ensures made { MakesOnly (Gives (open_pairs (D.words dev.old))) (D.told dev.old) (D.told dev.new) }
+    ensures in_line { MakesOnly StaysInLine (D.told dev.old) (D.told dev.new) }
     ensures err { OnErr result ((k : ℕ) × (D.words dev.new ≡ with_pairs (drop k (open_pairs (D.words dev.old))) (D.words dev.old))) }
     ensures cause { HasCause (D.faults dev.old) (D.faults dev.new) result }
 {

@@ -3,4 +3,6 @@
 //! Its one model is `settled`: the words with their open record applied, its gates closed and the staging slots empty.
 #![tactic(auto)]
 
-pub mod settle;
+mod settling;
+
+pub use settling::settle;

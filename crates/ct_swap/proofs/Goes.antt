@@ -12,8 +12,20 @@ use Rattle.ct_image.proofs.Swap.{Swaps}
 use Rattle.ct_base.specs.Pieces.{pieces_from, pieces, height_at, IsBlock}
 use Rattle.ct_pieces.proofs.Steps.{pieces_from-past, pieces_from-step, width_pos}
 use Rattle.ct_pieces.proofs.Least.{height_block, height_greatest}
-use Rattle.ct_base.specs.Exchange.{Apart, Outside, Exchanged, SameTables, HasTables, entry_at, with_swap}
+use Rattle.ct_base.specs.Exchange.{Apart, Outside, Exchanged, HasTables, entry_at}
 use Rattle.ct_image.proofs.Exchanging.{exchanged_none, exchanged-step}
+
+-- the tables after the pairs are those of the device
+pub record SameTables (device drafted : List ℕ) : Type 0 where
+  pub tables : AreTables device
+  pub pages : (e x : ℕ) → e ≤ 4 → page_at drafted e x ≡ page_at device e x
+  pub same : AreTables drafted
+  pub count : page_count drafted ≡ page_count device
+  pub size : length drafted ≡ length device
+
+-- two words change places
+unfoldable pub with_swap : List ℕ → ℕ → ℕ → List ℕ
+with_swap img w1 w2 = set (set img w1 (word img w2)) w2 (word img w1)
 
 -- where all begins at multiples of 512 ^ j pages and a lower piece has begun so many, n lies among them: each piece is as
 -- high as can be

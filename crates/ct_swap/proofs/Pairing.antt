@@ -5,7 +5,7 @@ use Rattle.std.proofs.lemmas.Bool.{cases_eq}
 use Rattle.std.proofs.lemmas.List.{append-nil}
 use Rattle.std.proofs.lemmas.List.Elements.{All-tail}
 use Rattle.ct_base.specs.Walk.{word, page_at, page_count, next, AreTables}
-use Rattle.ct_base.specs.Exchange.{Apart, Outside, Exchanged, SameTables, HasTables, entry_at, with_swap}
+use Rattle.ct_base.specs.Exchange.{Apart, Outside, Exchanged, HasTables, entry_at}
 use Rattle.ct_base.specs.Pieces.{pieces_from, pieces}
 use Rattle.ct_base.specs.Settled.{Pair, with_pairs, Named}
 use Rattle.ct_image.proofs.Steps.{page_at-same_root, page_at-next, page_at-entry, page_at-low, next-same, next-at, named_page-bounds}
@@ -15,7 +15,7 @@ use Rattle.ct_pieces.proofs.Steps.{width_pos}
 use Rattle.ct_pm.specs.Device.{SameOff}
 use Rattle.ct_record.specs.Record.{InRecord}
 use Rattle.ct_swap.specs.Swap.{LeaveTables, first_pair, second_pair, swap_pairs, AreDistinct}
-use Rattle.ct_swap.proofs.Goes.{Goes, Head, head_of, head_is, goes_start, goes_step, goes_end, digits, aligned, entry_apart}
+use Rattle.ct_swap.proofs.Goes.{Goes, Head, head_of, head_is, goes_start, goes_step, goes_end, digits, aligned, entry_apart, SameTables, with_swap}
 
 -- ---- pairs that leave the tables
 

@@ -5,8 +5,6 @@
 
 mod now;
 mod swap;
-#[cfg(test)]
-mod tests;
 
 pub use now::pswap_now;
 pub use swap::pswap;

@@ -6,13 +6,13 @@ ghost use Rattle.ct_base.specs.Pieces.{pieces};
 ghost use Rattle.ct_base.specs.Settled.{HasFewPairs, HasPages, IsShut, with_pairs};
 ghost use Rattle.ct_base.specs.Walk.{AreTables};
 ghost use Rattle.ct_pm.specs.Device.{LeavesOnly, MakesOnly, NothingPending, SameOff};
-ghost use Rattle.ct_record.specs.Record.{InRecord, OpensOnly, SettlesToEither};
-ghost use Rattle.ct_swap.specs.Committed.{StaysOrGives, after_swap};
+ghost use Rattle.ct_record.specs.Record.{InRecord, OpensOnly, SettlesToEither, StaysOrGives};
+ghost use Rattle.ct_record.specs.Seen.{device_behind};
 ghost use Rattle.ct_swap.specs.Swap.{swap_pairs};
 
 use crate::swap::pswap;
 use ct_pm::Pm;
-use ct_record::{Broken, Draft, Idle, complete};
+use ct_record::{Broken, Draft, Idle, conclude};
 
 /// Exchanges the `n` virtual pages from `a` on with those from `b` on, as a record of its own: a crash at any moment leaves
 /// what settles to the words at entry, or to those with all of the exchange.
@@ -32,37 +32,27 @@ pub fn pswap_now<D: Pm>(dev: D, a: u64, b: u64, n: u64) -> Result<D, Broken<D>>
     requires there { All (HasTables (D.words dev) a b) (pieces a b n) }
     requires room { 2 * length (pieces a b n) ≤ 8184 }
 
-    ensures exchanged { OnOk result (Exchanged (D.words dev) (D.words (after_swap result)) a b n) }
-    ensures words { OnOk result (SameOff InRecord (D.words (after_swap result)) (with_pairs (swap_pairs (D.words dev) a b (pieces a b n)) (D.words dev))) }
-    ensures shut { OnOk result (IsShut (D.words (after_swap result))) }
-    ensures settled { OnOk result (NothingPending (D.told (after_swap result))) }
+    ensures exchanged { OnOk result (Exchanged (D.words dev) (D.words (device_behind result)) a b n) }
+    ensures words { OnOk result (SameOff InRecord (D.words (device_behind result)) (with_pairs (swap_pairs (D.words dev) a b (pieces a b n)) (D.words dev))) }
+    ensures shut { OnOk result (IsShut (D.words (device_behind result))) }
+    ensures settled { OnOk result (NothingPending (D.told (device_behind result))) }
 
     // A crash at any moment leaves none of the exchange or all of it, and so do the words as they read.
-    ensures any_moment { LeavesOnly (D.told dev) (D.told (after_swap result)) (SettlesToEither (swap_pairs (D.words dev) a b (pieces a b n)) (D.words dev)) }
-    ensures reads { SettlesToEither (swap_pairs (D.words dev) a b (pieces a b n)) (D.words dev) (D.words (after_swap result)) }
+    ensures any_moment { LeavesOnly (D.told dev) (D.told (device_behind result)) (SettlesToEither (swap_pairs (D.words dev) a b (pieces a b n)) (D.words dev)) }
+    ensures reads { SettlesToEither (swap_pairs (D.words dev) a b (pieces a b n)) (D.words dev) (D.words (device_behind result)) }
 
     // The record is lawful in it, with no more pairs than two a piece, and so it is in the words as they read.
-    ensures lawful { LeavesOnly (D.told dev) (D.told (after_swap result)) (HasFewPairs (2 * length (pieces a b n))) }
-    ensures reads_lawful { HasFewPairs (2 * length (pieces a b n)) (D.words (after_swap result)) }
+    ensures lawful { LeavesOnly (D.told dev) (D.told (device_behind result)) (HasFewPairs (2 * length (pieces a b n))) }
+    ensures reads_lawful { HasFewPairs (2 * length (pieces a b n)) (D.words (device_behind result)) }
 
     // No other pairs are ever open.
-    ensures opens { LeavesOnly (D.told dev) (D.told (after_swap result)) (OpensOnly (swap_pairs (D.words dev) a b (pieces a b n))) }
-    ensures reads_opens { OpensOnly (swap_pairs (D.words dev) a b (pieces a b n)) (D.words (after_swap result)) }
+    ensures opens { LeavesOnly (D.told dev) (D.told (device_behind result)) (OpensOnly (swap_pairs (D.words dev) a b (pieces a b n))) }
+    ensures reads_opens { OpensOnly (swap_pairs (D.words dev) a b (pieces a b n)) (D.words (device_behind result)) }
 
-    ensures made { MakesOnly (StaysOrGives (swap_pairs (D.words dev) a b (pieces a b n))) (D.told dev) (D.told (after_swap result)) }
-    ensures cause { HasCause (D.faults dev) (D.faults (after_swap result)) result }
+    ensures made { MakesOnly (StaysOrGives (swap_pairs (D.words dev) a b (pieces a b n))) (D.told dev) (D.told (device_behind result)) }
+    ensures cause { HasCause (D.faults dev) (D.faults (device_behind result)) result }
 {
     let mut draft = Draft::begin(Idle::of(dev));
-    match pswap(&mut draft, a, b, n) {
-        Ok(()) => {}
-        Err(_) => {
-            return Err(Broken {
-                dev: draft.abandon(),
-            });
-        }
-    }
-    match complete(draft) {
-        Ok(idle) => Ok(idle.into_dev()),
-        Err(broken) => Err(broken),
-    }
+    let drafted = pswap(&mut draft, a, b, n);
+    conclude(draft, drafted)
 }

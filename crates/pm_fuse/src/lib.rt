@@ -128,23 +128,3 @@ impl<D: Pm> Pm for FusePm<D> {
         self.dev.fence()
     }
 }
-
-#[cfg(test)]
-mod tests {
-    use super::*;
-    use ct_pm::RamPm;
-    use std::test::Fail;
-
-    #[test]
-    fn two_calls_pass(rt: HostRuntime) -> Result<(), Fail> {
-        let mut dev = FusePm::new(RamPm::new(rt.alloc(), 1)?, 2);
-        assert_eq!(rt; dev.pages(), 1);
-        assert!(rt; dev.store(8, 5).is_ok());
-        assert!(rt; dev.flush(1).is_ok());
-        assert!(rt; dev.fence().is_err());
-        assert_eq!(rt; dev.load(8), 5);
-        let ram = dev.into_inner();
-        assert_eq!(rt; ram.load(8), 5);
-        Ok(())
-    }
-}

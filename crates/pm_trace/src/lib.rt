@@ -5,8 +5,6 @@
 #![tactic(auto)]
 
 mod crash;
-#[cfg(test)]
-mod tests;
 pub mod trace;
 
 pub use trace::TracePm;

@@ -1,4 +1,5 @@
 use Rattle.std.proofs.Common.{◌≡◌, ◌⊎◌, ◌∙◌, List, Option, ℕ, ap, inl, inr, subst, sym}
+use Rattle.std.specs.Prelude.{slice_index}
 use Rattle.ct_base.specs.Settled.{Pair, Gives, HasFewPairs, open_pairs, with_pairs}
 use Rattle.ct_pm.specs.Images.{History}
 use Rattle.ct_pm.specs.Device.{LeavesOnly}
@@ -10,7 +11,7 @@ use Rattle.ct_record.proofs.Lawful.{few_more}
 use Rattle.ct_record.proofs.Opens.{armed_opens, opens_as}
 use Rattle.ct_record.proofs.Settles.{same_then}
 use Rattle.ct_record.proofs.Drafts.{ok_of}
-use Rattle.ct_record.proofs.Applying.{applied_pairs, applied_same}
+use Rattle.ct_record.proofs.Applying.{applied_gates, applied_pairs, applied_same}
 use Rattle.ct_record.proofs.Whole.{either_armed, either_later, words_at_end}
 use Rattle.ct_record.proofs.Chain.{begun, apart_of}
 use Rattle.ct_record.proofs.completing.complete.Goals as goal
@@ -126,3 +127,13 @@ returns-clause-opens g c =
 
 pub returns-clause-reads_opens : goal.returns-clause-reads_opens
 returns-clause-reads_opens g c = opens_as (g.D.Pm.words (after_finish c.finish.result)) (still_open g c) c.finish.ensures.reads_opens
+
+pub returns-in-Err-apply-clause-in_line : goal.returns-in-Err-apply-clause-in_line
+returns-in-Err-apply-clause-in_line g c = λ short. makes_then (c.in-Ok.ensures.in_line short) c.in-Err-apply.ensures.in_line
+
+pub returns-clause-in_line : goal.returns-clause-in_line
+returns-clause-in_line g c = λ short.
+    let armed = c.in-Ok.armed in
+    let closed : slice_index (g.D.Pm.words c.in-Ok-apply.applied.dev) 512 ≡ 0 =
+    ap (λ (l : List ℕ). slice_index l 512) c.in-Ok-apply.ensures.words ∙ (applied_gates armed.record armed.pages).0 ∙ c.in-Ok.ensures.closed short in
+    makes_then (makes_then (c.in-Ok.ensures.in_line short) c.in-Ok-apply.ensures.in_line) (c.finish.ensures.in_line closed)

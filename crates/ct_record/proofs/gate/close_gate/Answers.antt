@@ -1,9 +1,9 @@
-use Rattle.std.proofs.Common.{arith}
+use Rattle.std.proofs.Common.{inr, arith}
 use Rattle.std.specs.Prelude.{slice_index}
 use Rattle.ct_base.specs.Settled.{HasFewPairs, open_pairs}
 use Rattle.ct_pm.proofs.Made.{makes_weaker}
 use Rattle.ct_pm.proofs.Told.{weaker}
-use Rattle.ct_record.specs.Record.{OpensOnly, SettlesTo, StaysInRecord}
+use Rattle.ct_record.specs.Record.{OpensOnly, SettlesTo, StaysInLine, StaysInRecord}
 use Rattle.ct_record.proofs.Closing.{shut_long, shut_short, close_lawful, close_moves}
 use Rattle.ct_record.proofs.Moments.{either_commit}
 use Rattle.ct_record.proofs.Opens.{close_opens}
@@ -86,3 +86,6 @@ returns-clause-reads_opens g c =
     let new = g.D.Pm.words c.commit-2.new.dev in
     close_opens 527 was (shut_short was c.requires.pages (omega (arith, c.if-load-gt0.false, c.load.ensures))) new
     (either_commit c.commit-2.result was new 527 0 c.commit-2.ensures.words c.commit-2.ensures.err)
+
+pub returns-clause-in_line : goal.returns-clause-in_line
+returns-clause-in_line g c = λ closed. makes_weaker StaysInLine (λ word value is inside. inr is.0) c.commit-2.ensures.made

@@ -1,36 +1,41 @@
-use Rattle.std.proofs.Common.{arith}
-use Rattle.ct_record.proofs.Applying.{MayApply, pair_within, target_within, one_more, either, quiet_more, makes_more, back_more}
-use Rattle.ct_record.proofs.Drafts.{err_of}
+use Rattle.std.proofs.Common.{◌≤◌, ◌∙◌, arith}
+use Rattle.ct_pm.proofs.Made.{makes_then, makes_weaker}
+use Rattle.ct_pm.proofs.Quiet.{quiet_then}
+use Rattle.ct_base.specs.Settled.{Gives, Named, pairs_at}
+use Rattle.ct_record.proofs.Applying.{all_back, pairs_within, some_applied, targets_within}
+use Rattle.ct_record.proofs.Drafts.{err_of, ok_map, ok_of}
 use Rattle.ct_record.proofs.pair.apply_pairs.Goals as goal
 
-pub apply_pair-requires-clause-pair : goal.apply_pair-requires-clause-pair
-apply_pair-requires-clause-pair g c = pair_within (record { inside = c.requires.inside; pages = c.requires.pages; targets = c.requires.targets }) c.loop-i-test.true c.loop-i.invariant.words
+pub flush_pairs-requires-clause-inside : goal.flush_pairs-requires-clause-inside
+flush_pairs-requires-clause-inside g c =
+    let all : c.args.count ≤ c.args.count = omega arith in
+    pairs_within (record { inside = c.requires.inside; pages = c.requires.pages; targets = c.requires.targets }) all c.in_ok-store_pairs.ensures.words
 
-pub apply_pair-requires-clause-target : goal.apply_pair-requires-clause-target
-apply_pair-requires-clause-target g c = target_within (record { inside = c.requires.inside; pages = c.requires.pages; targets = c.requires.targets }) c.loop-i-test.true c.loop-i.invariant.words
+pub flush_pairs-requires-clause-targets : goal.flush_pairs-requires-clause-targets
+flush_pairs-requires-clause-targets g c =
+    let all : c.args.count ≤ c.args.count = omega arith in
+    targets_within (record { inside = c.requires.inside; pages = c.requires.pages; targets = c.requires.targets }) all c.in_ok-store_pairs.ensures.words
 
-pub returns-in_err-apply_pair-clause-quiet : goal.returns-in_err-apply_pair-clause-quiet
-returns-in_err-apply_pair-clause-quiet g c =
-    quiet_more (record { inside = c.requires.inside; pages = c.requires.pages; targets = c.requires.targets }) c.loop-i-test.true c.loop-i.invariant.words c.loop-i.invariant.quiet c.apply_pair.ensures.quiet
+pub returns-clause-quiet : goal.returns-clause-quiet
+returns-clause-quiet g c =
+    quiet_then (Named (pairs_at c.args.from c.args.count (g.D.Pm.words c.args.dev.now))) (λ word none. absurd none) c.store_pairs.ensures.quiet c.flush_pairs.ensures.quiet
 
-pub returns-in_err-apply_pair-clause-err : goal.returns-in_err-apply_pair-clause-err
-returns-in_err-apply_pair-clause-err g c =
-    err_of c.from_residual.result
-    (either (record { inside = c.requires.inside; pages = c.requires.pages; targets = c.requires.targets }) c.loop-i-test.true c.loop-i.invariant.words (g.D.Pm.words c.apply_pair.new.dev) c.in_err-apply_pair.ensures.err)
+pub returns-clause-made : goal.returns-clause-made
+returns-clause-made g c =
+    makes_then c.store_pairs.ensures.made
+    (makes_weaker (Gives (pairs_at c.args.from c.args.count (g.D.Pm.words c.args.dev.now))) (λ word value none. absurd none) c.flush_pairs.ensures.made)
 
-pub loop-i-preserved : goal.loop-i-preserved
-loop-i-preserved g c =
-    let may : MayApply c.args.from c.args.count (g.D.Pm.words c.args.dev.now) = record { inside = c.requires.inside; pages = c.requires.pages; targets = c.requires.targets } in
-    let so_far = c.loop-i.invariant in
-    let one = c.in_ok-apply_pair.ensures in
-    record {
-      words = one_more may c.loop-i-test.true so_far.words (g.D.Pm.words c.apply_pair.new.dev) one.words;
-      quiet = quiet_more may c.loop-i-test.true so_far.words so_far.quiet one.quiet;
-      made = makes_more may c.loop-i-test.true so_far.words so_far.made c.apply_pair.ensures.made;
-      back = back_more may c.loop-i-test.true so_far.words (g.D.Pm.told c.loop-i.dev) (g.D.Pm.told c.apply_pair.new.dev) so_far.back one.back one.still_back;
-      faults = omega (arith, so_far.faults, one.cause.later);
-    }
+pub returns-clause-words : goal.returns-clause-words
+returns-clause-words g c = ok_of c.flush_pairs.result (c.flush_pairs.ensures.words ∙ c.in_ok-store_pairs.ensures.words)
 
-pub returns-in_err-apply_pair-clause-made : goal.returns-in_err-apply_pair-clause-made
-returns-in_err-apply_pair-clause-made g c =
-    makes_more (record { inside = c.requires.inside; pages = c.requires.pages; targets = c.requires.targets }) c.loop-i-test.true c.loop-i.invariant.words c.loop-i.invariant.made c.apply_pair.ensures.made
+pub returns-clause-back : goal.returns-clause-back
+returns-clause-back g c =
+    let all : c.args.count ≤ c.args.count = omega arith in
+    ok_map c.flush_pairs.result (λ back.
+    all_back (record { inside = c.requires.inside; pages = c.requires.pages; targets = c.requires.targets }) all c.in_ok-store_pairs.ensures.words (g.D.Pm.told c.flush_pairs.new.dev) back) c.flush_pairs.ensures.back
+
+pub returns-clause-err : goal.returns-clause-err
+returns-clause-err g c =
+    let all : c.args.count ≤ c.args.count = omega arith in
+    err_of c.flush_pairs.result
+    (some_applied (record { inside = c.requires.inside; pages = c.requires.pages; targets = c.requires.targets }) all (c.flush_pairs.ensures.words ∙ c.in_ok-store_pairs.ensures.words))

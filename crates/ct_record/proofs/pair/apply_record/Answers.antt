@@ -4,7 +4,7 @@ use Rattle.ct_base.specs.Settled.{HasFewPairs, open_pairs}
 use Rattle.ct_pm.proofs.Made.{makes_step}
 use Rattle.ct_record.specs.Record.{OpensOnly, SettlesTo}
 use Rattle.ct_pm.proofs.Told.{fenced}
-use Rattle.ct_record.proofs.Applying.{applying_settles, applying_lawful, applied_some, some_settles, some_lawful, applied_fenced, open_made, applying_opens, some_opens}
+use Rattle.ct_record.proofs.Applying.{applying_settles, applying_lawful, applied_some, some_settles, some_lawful, applied_fenced, open_made, applying_opens, some_opens, apply_line}
 use Rattle.ct_record.proofs.Drafts.{err_of}
 use Rattle.ct_record.proofs.pair.apply_record.Goals as goal
 
@@ -70,3 +70,9 @@ pub returns-clause-reads_opens : goal.returns-clause-reads_opens
 returns-clause-reads_opens g c =
     subst (OpensOnly (open_pairs (g.D.Pm.words c.args.dev.now))) (sym c.fence.ensures.words)
     (some_opens c.open_place-from.ensures c.requires.record (g.D.Pm.words c.apply_pairs.new.dev) (c.open_place-from.result.count, omega arith, c.in_ok-apply_pairs.ensures.words))
+
+pub returns-in_err-apply_pairs-clause-in_line : goal.returns-in_err-apply_pairs-clause-in_line
+returns-in_err-apply_pairs-clause-in_line g c = apply_line c.open_place-from.ensures c.requires.record c.apply_pairs.ensures.made
+
+pub returns-clause-in_line : goal.returns-clause-in_line
+returns-clause-in_line g c = makes_step c.fence.result (apply_line c.open_place-from.ensures c.requires.record c.apply_pairs.ensures.made) c.fence.ensures.step tt

@@ -37,8 +37,8 @@ fn look_at<D: Pm>(dev: &D, depth: u32, x: u64) -> Look
     }
 }
 
-// How many cells from x on, and before `to`, have no page together with it; 0 where x has one.
-fn absent_from<D: Pm>(dev: &D, depth: u32, x: u64, to: u64) -> u64
+/// How many cells from x on, and before `to`, have no page together with it; 0 where x has one.
+pub fn absent_from<D: Pm>(dev: &D, depth: u32, x: u64, to: u64) -> u64
     requires tables { AreTables (D.words dev.now) }
     requires deep { depth ≤ 4 }
     requires order { x < to }

@@ -8,11 +8,9 @@ mod absent;
 mod growing;
 mod staging;
 mod steps;
-#[cfg(test)]
-mod tests;
 mod wants;
 
-pub use absent::{has, missing};
+pub use absent::{absent_from, has, missing};
 pub use growing::{ensure, ensure_all};
 pub use staging::unstage;
 pub use steps::{Table, byte_at, load_at, root, table_at, walk};

@@ -35,6 +35,7 @@ fn give_below<D: Pm>(dev: &D, frames: &mut Frames, page: u64, levels: u32)
     requires used { (q : ℕ) → IsUnder (D.words dev.now) page levels q → ¬ Contains frames.old.free q }
     ensures pages { frames.new.pages ≡ frames.old.pages }
     ensures given { (q : ℕ) → Contains frames.new.free q ↔ (Contains frames.old.free q ⊎ IsUnder (D.words dev.now) page levels q) }
+    ensures more { length frames.old.free ≤ length frames.new.free }
 {
     if levels == 0 {
         give_page(frames, page);
@@ -66,6 +67,7 @@ pub fn unstage<D: Pm>(dev: &mut D, frames: &mut Frames, slot: u64) -> Result<(),
     ensures unstaged { OnOk result (Unstaged (D.words dev.old) (D.words dev.new) slot) }
     ensures agrees { OnOk result (Agrees (D.words dev.new) frames.new) }
     ensures given { OnOk result ((q : ℕ) → Contains frames.new.free q ↔ (Contains frames.old.free q ⊎ IsUnder (D.words dev.old) (page_at (D.words dev.old) 1 slot) 3 q)) }
+    ensures more { length frames.old.free ≤ length frames.new.free }
     ensures slot { OnOk result (EachNow (D.told dev.new) (λ image. slice_index image (16896 + slot) ≡ 0)) }
     ensures settled { OnOk result (NothingPending (D.told dev.old) → NothingPending (D.told dev.new)) }
 

@@ -1,8 +1,9 @@
-use Rattle.std.proofs.Common.{◌≡◌, ◌≢◌, ℕ, suc, ◌+◌, ◌-◌, ◌/◌, ◌<◌, List, sym, ap, subst, ◌∙◌, ◌⊎◌, arith}
+use Rattle.std.proofs.Common.{◌≡◌, ◌≢◌, ℕ, suc, ◌+◌, ◌-◌, ◌/◌, ◌<◌, List, length, sym, ap, subst, ◌∙◌, ◌⊎◌, arith}
 use Rattle.std.specs.Prelude.{Contains, ◌↔◌}
 use Rattle.ct_base.specs.Walk.{next, IsUnder, IsSubtree}
 use Rattle.ct_image.proofs.Below.{subtree_child, under_self}
 use Rattle.ct_frames.specs.Free.{FreePages, inserted}
+use Rattle.ct_frames.proofs.Lists.{length-inserted}
 use Rattle.ct_walk.proofs.Gives.{Given, entry_none, entry_some, given_none, given_more, not_yet, given_all, given_alone, self_not_yet}
 use Rattle.ct_walk.proofs.staging.+give_below.Goals as goal
 use Rattle.ct_walk.proofs.staging.+give_below.Goals.{then-entry-ne0, else-entry-ne0}
@@ -53,6 +54,7 @@ loop-i-preserved g t c =
           record {
             some = c.loop-i.invariant.some;
             pages = ap (λ (f : FreePages). f.pages) v.frames-is ∙ v.give_below.ensures.pages ∙ c.loop-i.invariant.pages;
+            more = omega (arith, c.loop-i.invariant.more, v.give_below.ensures.more, ap (λ (f : FreePages). length f.free) v.frames-is);
             given = subst (λ (f : FreePages). Given w c.args.frames.now.free f.free c.args.page k (c.loop-i.i + 1)) (sym v.frames-is) given;
           }
       | else-entry-ne0 v ↦
@@ -61,6 +63,7 @@ loop-i-preserved g t c =
           record {
             some = c.loop-i.invariant.some;
             pages = ap (λ (f : FreePages). f.pages) v.frames-is ∙ c.loop-i.invariant.pages;
+            more = omega (arith, c.loop-i.invariant.more, ap (λ (f : FreePages). length f.free) v.frames-is);
             given = subst (λ (f : FreePages). Given w c.args.frames.now.free f.free c.args.page k (c.loop-i.i + 1)) (sym v.frames-is) given;
           }
     ]
@@ -76,6 +79,12 @@ returns-then-levels-eq0-clause-given g t c q =
     subst (λ (xs : List ℕ). Contains xs q ↔ (Contains c.args.frames.now.free q ⊎ IsUnder w c.args.page c.args.levels q)) (sym free)
     (subst (λ (k : ℕ). Contains (inserted c.args.page c.args.frames.now.free) q ↔ (Contains c.args.frames.now.free q ⊎ IsUnder w c.args.page k q)) (sym c.if-levels-eq0.true)
     (given_alone w c.args.frames.now.free c.args.page (λ z. omega (arith, c.requires.subtree.low, z)) q))
+
+pub returns-then-levels-eq0-clause-more : goal.returns-then-levels-eq0-clause-more
+returns-then-levels-eq0-clause-more g t c = omega (arith, ap (λ (f : FreePages). length f.free) c.give_page.ensures, length-inserted c.args.page c.args.frames.now.free)
+
+pub returns-clause-more : goal.returns-clause-more
+returns-clause-more g t c = omega (arith, c.loop-i.invariant.more, ap (λ (f : FreePages). length f.free) c.give_page-2.ensures, length-inserted c.args.page c.loop-i.frames.free)
 
 -- the loop has gone over all entries
 done : (w before now : List ℕ) (page k levels i : ℕ) → levels ≡ suc k → i ≡ 512 → IsSubtree w page levels → Given w before now page k i

@@ -1,0 +1,5 @@
+use Rattle.ct_plan.proofs.Plans.{few_exchange_missing}
+use Rattle.ct_plan.proofs.laws.short_plans_of_exchanges_need_as_much.Goals as goal
+
+pub returns : goal.returns
+returns c = few_exchange_missing

@@ -1,0 +1,10 @@
+use Rattle.std.proofs.Common.{◌≡◌, ℕ, ◌+◌, ◌*◌, ◌<◌, length}
+use Rattle.std.specs.Prelude.{slice_index}
+use Rattle.ct_base.specs.Inode.{little}
+use Rattle.ct_stage.proofs.edit.listed_page.Given as goal
+
+abbrev pub invariant-loop-k : goal.invariant-loop-k
+invariant-loop-k l = record {
+  size : length l.words ≡ 512;
+  words : (j : ℕ) → j < l.k → slice_index l.words j ≡ little (slice_index l.bytes) (l.at + 8 * j) 8;
+}

@@ -1,0 +1,180 @@
+// What staged pages hold: new bytes in a range of addresses, and the old ones around it.
+ghost use Rattle.std.specs.Prelude.{◌≡◌, ℕ, ◌+◌, ◌*◌, ◌^◌, ◌%◌, ◌<◌, ◌≤◌, length, replicate, slice_index};
+ghost use Rattle.ct_base.specs.Inode.{little};
+ghost use Rattle.ct_base.specs.View.{view};
+ghost use Rattle.ct_base.specs.Walk.{AreTables};
+ghost use Rattle.ct_stage.specs.Edited.{edited, given_at, AreThere, HasBytes};
+
+use ct_base::Vaddr;
+use ct_pm::Pm;
+use ct_walk::byte_at;
+use ct_words::load_word;
+
+/// The words of a page.
+pub const PAGE_WORDS: usize = 512;
+
+/// The word whose eight bytes are 1.
+const EACH_BYTE: u64 = 0x0101_0101_0101_0101;
+
+/// New bytes.
+#[derive(Clone, Copy, Debug, Drop)]
+pub enum Given<'a> {
+    /// Each is this one.
+    Same(u8),
+    /// They stand in this order.
+    Listed(&'a [u8]),
+}
+
+/// New bytes at the addresses from `from` to `to - 1`; at each other address is what was there.
+#[derive(Clone, Copy, Debug, Drop)]
+pub struct Edit<'a> {
+    pub from: u64,
+    pub to: u64,
+    pub given: Given<'a>,
+}
+
+// The byte at an address, once the edit is made.
+fn edited_byte<D: Pm>(dev: &D, edit: &Edit, a: u64) -> u8
+    requires tables { AreTables (D.words dev.now) }
+    requires given { AreThere edit.now }
+    requires low { 10 * 2 ^ 39 ≤ a }
+    requires high { a < 2 ^ 48 }
+    ensures { result ≡ edited (view (D.words dev.now)) edit.now a }
+{
+    if a < edit.from || edit.to <= a {
+        return match Vaddr::new(a) {
+            Some(v) => byte_at(dev, v),
+            None => unreachable!(),
+        };
+    }
+    match edit.given {
+        Given::Same(byte) => byte,
+        Given::Listed(bytes) => bytes[(a - edit.from) as usize],
+    }
+}
+
+// The word of eight bytes of a slice.
+fn listed_word(bytes: &[u8], at: usize) -> u64
+    requires { at + 8 ≤ length bytes.now }
+    ensures { result ≡ little (slice_index bytes.now) at 8 }
+{
+    u64::from_le_bytes([
+        bytes[at],
+        bytes[at + 1],
+        bytes[at + 2],
+        bytes[at + 3],
+        bytes[at + 4],
+        bytes[at + 5],
+        bytes[at + 6],
+        bytes[at + 7],
+    ])
+}
+
+// The word of eight new bytes, number `at` and on.
+fn given_word(given: &Given, at: u64) -> u64
+    requires { HasBytes given.now (at + 8) }
+    ensures { result ≡ little (given_at given.now) at 8 }
+{
+    match *given {
+        Given::Same(byte) => byte as u64 * EACH_BYTE,
+        Given::Listed(bytes) => listed_word(bytes, at as usize),
+    }
+}
+
+// The word of the eight bytes from an address on, where the edit ends among them.
+fn mixed_word<D: Pm>(dev: &D, edit: &Edit, a: u64) -> u64
+    requires tables { AreTables (D.words dev.now) }
+    requires given { AreThere edit.now }
+    requires low { 10 * 2 ^ 39 ≤ a }
+    requires high { a + 8 ≤ 2 ^ 48 }
+    ensures { result ≡ little (edited (view (D.words dev.now)) edit.now) a 8 }
+{
+    let mut word = 0;
+    for i in 0..8u64 {
+        word = word * 256 + edited_byte(dev, edit, a + (7 - i)) as u64;
+    }
+    word
+}
+
+// The word of the eight bytes from an address on, once the edit is made.
+fn edited_word<D: Pm>(dev: &D, edit: &Edit, a: u64) -> u64
+    requires tables { AreTables (D.words dev.now) }
+    requires given { AreThere edit.now }
+    requires low { 10 * 2 ^ 39 ≤ a }
+    requires high { a + 8 ≤ 2 ^ 48 }
+    requires aligned { a % 8 ≡ 0 }
+    ensures { result ≡ little (edited (view (D.words dev.now)) edit.now) a 8 }
+{
+    if a + 8 <= edit.from || edit.to <= a {
+        return load_word(dev, a);
+    }
+    if edit.from <= a && a + 8 <= edit.to {
+        return given_word(&edit.given, a - edit.from);
+    }
+    mixed_word(dev, edit, a)
+}
+
+// The words of a page of one byte.
+fn same_page(byte: u8) -> [u64; PAGE_WORDS]
+    ensures { result ≡ replicate 512 (byte * 72340172838076673) }
+{
+    [byte as u64 * EACH_BYTE; PAGE_WORDS]
+}
+
+// The words of 512 times eight bytes of a slice.
+fn listed_page(bytes: &[u8], at: usize) -> [u64; PAGE_WORDS]
+    requires { at + 4096 ≤ length bytes.now }
+    ensures length { length result ≡ 512 }
+    ensures words { (k : ℕ) → k < 512 → slice_index result k ≡ little (slice_index bytes.now) (at + 8 * k) 8 }
+{
+    let mut words = [0; PAGE_WORDS];
+    for k in 0..PAGE_WORDS {
+        words[k] = listed_word(bytes, at + 8 * k);
+    }
+    words
+}
+
+// The words of a page of new bytes, number `at` and on.
+fn given_page(given: &Given, at: u64) -> [u64; PAGE_WORDS]
+    requires { HasBytes given.now (at + 4096) }
+    ensures length { length result ≡ 512 }
+    ensures words { (k : ℕ) → k < 512 → slice_index result k ≡ little (given_at given.now) (at + 8 * k) 8 }
+{
+    match *given {
+        Given::Same(byte) => same_page(byte),
+        Given::Listed(bytes) => listed_page(bytes, at as usize),
+    }
+}
+
+// The words of a page in which the edit may end.
+fn mixed_page<D: Pm>(dev: &D, edit: &Edit, at: u64) -> [u64; PAGE_WORDS]
+    requires tables { AreTables (D.words dev.now) }
+    requires given { AreThere edit.now }
+    requires low { 10 * 2 ^ 39 ≤ at }
+    requires high { at + 4096 ≤ 2 ^ 48 }
+    requires aligned { at % 4096 ≡ 0 }
+    ensures length { length result ≡ 512 }
+    ensures words { (k : ℕ) → k < 512 → slice_index result k ≡ little (edited (view (D.words dev.now)) edit.now) (at + 8 * k) 8 }
+{
+    let mut words = [0; PAGE_WORDS];
+    for k in 0..PAGE_WORDS {
+        words[k] = edited_word(dev, edit, at + 8 * k as u64);
+    }
+    words
+}
+
+/// The words of the page from an address on, once the edit is made.
+pub fn edited_page<D: Pm>(dev: &D, edit: &Edit, at: u64) -> [u64; PAGE_WORDS]
+    requires tables { AreTables (D.words dev.now) }
+    requires given { AreThere edit.now }
+    requires low { 10 * 2 ^ 39 ≤ at }
+    requires high { at + 4096 ≤ 2 ^ 48 }
+    requires aligned { at % 4096 ≡ 0 }
+    ensures length { length result ≡ 512 }
+    ensures words { (k : ℕ) → k < 512 → slice_index result k ≡ little (edited (view (D.words dev.now)) edit.now) (at + 8 * k) 8 }
+{
+    if edit.from <= at && at + 4096 <= edit.to {
+        return given_page(&edit.given, at - edit.from);
+    }
+    mixed_page(dev, edit, at)
+}

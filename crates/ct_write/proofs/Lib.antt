@@ -1,0 +1,14 @@
+pub mod Sizing
+pub mod Settling
+pub mod Paths
+pub mod Tabled
+pub mod Reaching
+pub mod Spots
+pub mod Done
+pub mod Counting
+pub mod Ending
+pub mod Moving
+pub mod Opening
+pub mod Files
+pub mod Following
+pub mod Telling

@@ -1,0 +1,57 @@
+-- What the record of a write asks for, and what it does.
+use Rattle.std.specs.Prelude.{◌≡◌, ◌≢◌, ℕ, ◌+◌, ◌*◌, ◌/◌, ◌^◌, ◌<◌, ◌≤◌, ◌⊎◌, All, List, length}
+use Rattle.ct_base.specs.Exchange.{Exchanged, HasTables}
+use Rattle.ct_base.specs.Pieces.{pieces}
+use Rattle.ct_base.specs.Settled.{HasFewPairs, IsShut, Named, open_pairs}
+use Rattle.ct_base.specs.Walk.{word, byte, page_at, AreTables}
+use Rattle.ct_words.specs.Shown.{shown_word}
+use Rattle.ct_record.specs.Record.{SettlesTo}
+
+-- the device word lies on no page from root slot 2 on
+abbrev pub IsBare : List ℕ → ℕ → Type 0
+IsBare img w = (q : ℕ) → 2 * 2 ^ 27 ≤ q → page_at img 4 q ≢ w / 512
+
+-- The size of inode i becomes another, and no other byte.
+pub record Sized (old new : List ℕ) (i len : ℕ) : Type 0 where
+  pub tables : AreTables new
+  pub cells : (d x : ℕ) → d ≤ 4 → page_at new d x ≡ page_at old d x
+  pub is : shown_word new (64 * i + 8) ≡ len
+  pub bytes : (v : ℕ) → v < 2 ^ 48 → (v < 64 * i + 8) ⊎ (64 * i + 16 ≤ v) → byte new v ≡ byte old v
+  pub head : (w : ℕ) → w < 512 → word new w ≡ word old w
+  pub size : length new ≡ length old
+
+-- Pages a and on have changed places with pages b and on, n of them, and the size of inode i is this.
+pub record Recorded (old new : List ℕ) (i a b n size : ℕ) : Type 0 where
+  pub middle : List ℕ
+  pub exchanged : Exchanged old middle a b n
+  pub head : (w : ℕ) → w < 512 → word middle w ≡ word old w
+  pub sized : Sized middle new i size
+
+-- The record can be made: the inode is there with its size, the first pages lie from root slot 10 on and the others in slot
+-- 2, and so do the tables of each piece.
+pub record CanRecord (img : List ℕ) (i a b n len : ℕ) : Type 0 where
+  pub from : 1 ≤ i
+  pub to : i ≤ 1048576
+  pub there : page_at img 4 (64 * i / 4096) ≢ 0
+  pub was : shown_word img (64 * i + 8) ≡ len
+  pub some : 1 ≤ n
+  pub first_from : 10 * 2 ^ 27 ≤ a
+  pub first_to : a + n ≤ 2 ^ 36
+  pub second_from : 2 * 2 ^ 27 ≤ b
+  pub second_to : b + n ≤ 3 * 2 ^ 27
+  pub tables : All (HasTables img a b) (pieces a b n)
+  pub few : length (pieces a b n) ≤ 2555
+
+-- the image settles to words with all of the record
+pub record AfterRecord (words : List ℕ) (i a b n size : ℕ) (image : List ℕ) : Type 0 where
+  pub after : List ℕ
+  pub recorded : Recorded words after i a b n size
+  pub shut : IsShut after
+  pub settles : SettlesTo after image
+
+-- The record is lawful and has few pairs, the open ones name bare words, and the image settles to the words without it or
+-- with all of it.
+pub record SettlesRecorded (words : List ℕ) (i a b n size : ℕ) (image : List ℕ) : Type 0 where
+  pub few : HasFewPairs 5111 image
+  pub names : (w : ℕ) → Named (open_pairs image) w → IsBare words w
+  pub to : SettlesTo words image ⊎ AfterRecord words i a b n size image

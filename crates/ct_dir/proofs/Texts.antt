@@ -3,7 +3,6 @@ use Rattle.std.proofs.Common.{◌≡◌, ℕ, zero, suc, ◌+◌, ◌*◌, ◌/�
 use Rattle.std.proofs.Math.Nat.{pow-suc, div-div-eq-div-mul}
 use Rattle.std.proofs.lemmas.Bool.{cases_lt}
 use Rattle.std.proofs.lemmas.Grind.{same_number_lists}
-use Rattle.std.specs.Int.{w64, from_le_bytes}
 use Rattle.ct_base.specs.Inode.{little}
 use Rattle.ct_base.specs.Objects.{Object}
 use Rattle.ct_base.specs.Slots.{bytes_from, slot_inode, slot_length, slot_name}
@@ -119,20 +118,6 @@ head_parts f o small =
     let e6 : f.at (o + 1 + 1 + 1 + 1 + 1 + 1) ≡ f.at (o + 4 + 1 + 1) = ap f.at (omega arith) in
     let e7 : f.at (o + 1 + 1 + 1 + 1 + 1 + 1 + 1) ≡ f.at (o + 4 + 1 + 1 + 1) = ap f.at (omega arith) in
     (omega (arith, s0, s1, s2, s3), omega (arith, s0, s1, s2, s3, e4, e5, e6, e7))
-
--- eight bytes as a number
-pub little-eight : (b : ℕ → ℕ) (v b0 b1 b2 b3 b4 b5 b6 b7 : ℕ)
-    → b0 ≡ b v → b1 ≡ b (v + 1) → b2 ≡ b (v + 2) → b3 ≡ b (v + 3) → b4 ≡ b (v + 4) → b5 ≡ b (v + 5) → b6 ≡ b (v + 6) → b7 ≡ b (v + 7)
-    → (r : ℕ) → r ≡ from_le_bytes w64 (b0 ∷ b1 ∷ b2 ∷ b3 ∷ b4 ∷ b5 ∷ b6 ∷ b7 ∷ []) → r ≡ little b v 8
-unfolding little
-little-eight b v b0 b1 b2 b3 b4 b5 b6 b7 e0 e1 e2 e3 e4 e5 e6 e7 r is =
-    let f2 : b (v + 1 + 1) ≡ b (v + 2) = ap b (omega arith) in
-    let f3 : b (v + 1 + 1 + 1) ≡ b (v + 3) = ap b (omega arith) in
-    let f4 : b (v + 1 + 1 + 1 + 1) ≡ b (v + 4) = ap b (omega arith) in
-    let f5 : b (v + 1 + 1 + 1 + 1 + 1) ≡ b (v + 5) = ap b (omega arith) in
-    let f6 : b (v + 1 + 1 + 1 + 1 + 1 + 1) ≡ b (v + 6) = ap b (omega arith) in
-    let f7 : b (v + 1 + 1 + 1 + 1 + 1 + 1 + 1) ≡ b (v + 7) = ap b (omega arith) in
-    omega arith
 
 -- a list of so many words that are those of a name
 pub name_words-is : (words x : List ℕ) → length words ≡ 31 → ((k : ℕ) → k < 31 → get_or words k 0 ≡ little (λ j. get_or x j 0) (8 * k) 8) → words ≡ name_words x

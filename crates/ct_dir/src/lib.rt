@@ -11,8 +11,6 @@ mod names;
 mod order;
 mod slot;
 mod slots;
-#[cfg(test)]
-mod tests;
 
 pub use change::{clear, set};
 pub use count::{entries, free_slot};

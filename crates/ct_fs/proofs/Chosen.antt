@@ -1,8 +1,9 @@
 -- The first free partition of a level is a partition that meets none of a live inode.
-use Rattle.std.proofs.Common.{◌≡◌, ℕ, zero, suc, ◌+◌, ◌-◌, ◌*◌, ◌^◌, ◌<◌, ◌≤◌, true, false, List, ◌∷◌, sym, ap, subst, ◌∙◌, ◌⊎◌, inl, inr, arith}
+use Rattle.std.proofs.Common.{◌≡◌, ◌≢◌, [], refl, ℕ, zero, suc, ◌+◌, ◌-◌, ◌*◌, ◌^◌, ◌<◌, ◌≤◌, true, false, List, ◌∷◌, sym, ap, subst, ◌∙◌, ◌⊎◌, inl, inr, arith}
 use Rattle.std.specs.Prelude.{not}
 use Rattle.std.proofs.lemmas.Bool.{cases_Bool, cases_eq, cond-true, cond-false, and_parts, and_from, le-leb, ne_eqb, not-true, not_from_false}
 use Rattle.ct_base.specs.Inode.{Partition, IsPart, AreApart, inode, part, nth, has_part, is_free, meets, free_from, free_parts, live_parts}
+use Rattle.ct_base.specs.Plan.{first_of}
 use Rattle.ct_base.specs.Rules.{Owns}
 use Rattle.ct_parts.proofs.Lists.{meets-apart, partition_part}
 
@@ -40,6 +41,11 @@ first_free ps n p rest is =
       part = λ le. subst IsPart head.is (partition_part n head.number (record { level = le; low = head.from; high = omega (arith, head.to) }));
       free = head.free;
     }
+
+-- a list that is not empty begins with its first
+pub head_is : (ps : List Partition) → ps ≢ [] → (rest : List Partition) × (ps ≡ first_of ps ∷ rest)
+head_is [] some = absurd (some refl)
+head_is (p ∷ ps) some = (ps, refl)
 
 -- what meets none of the list meets not the partition of an inode in it
 free_live : (b : ℕ → ℕ) (m i : ℕ) (p : Partition) → 1 ≤ i → i ≤ m → has_part (inode b i) ≡ true → is_free (live_parts b m) p ≡ true → meets p (part (inode b i)) ≡ false

@@ -1,12 +1,14 @@
 -- Whether a directory grows for a new slot, and what the plan wants then.
-use Rattle.std.proofs.Common.{◌≡◌, ◌≢◌, ℕ, zero, suc, ◌+◌, ◌-◌, ◌*◌, ◌%◌, ◌^◌, ◌<◌, ◌≤◌, false, List, [], ◌∷◌, ◌++◌, Some, None, sym, ap, subst, ◌∙◌, ◌⊎◌, inl, inr, lit<, arith}
-use Rattle.std.specs.Prelude.{◌==◌, ◌&&◌, ◌||◌, nat_le, nat_lt}
-use Rattle.std.proofs.lemmas.Bool.{cases_Bool, cases_lt, cases_eq, cond-true, cond-false, and_left, and_right, or_cases, or_parts, eqb-true, eqb-false, ltb-true, ltb-false, le-ltb, leb-true}
+use Rattle.std.proofs.Common.{◌≡◌, ◌≢◌, ℕ, zero, suc, ◌+◌, ◌*◌, ◌%◌, ◌^◌, ◌<◌, ◌≤◌, List, [], ◌∷◌, ◌++◌, Some, None, sym, ap, subst, ◌∙◌, ◌⊎◌, inl, inr, lit<, arith}
+use Rattle.std.specs.Prelude.{◌==◌, ◌||◌, nat_le, nat_lt}
+use Rattle.std.proofs.lemmas.Bool.{cases_Bool, cases_lt, cond-true, cond-false, or_cases, or_parts, eqb-true, eqb-false, ltb-true, ltb-false, leb-true}
 use Rattle.std.proofs.Math.Nat.{pow-le-pow_right}
 use Rattle.ct_base.specs.declared.inode.Inode.{Inode}
 use Rattle.ct_base.specs.Inode.{Partition, IsPart, part, part_bytes, part_end, number_of, free_parts}
-use Rattle.ct_base.specs.Plan.{counted, exchange_height, grown, growth_wants, grows_to, level_for, level_from, next_part, page_want}
+use Rattle.ct_base.specs.Plan.{counted, grown, growth_wants, grows_to, level_for, level_from, next_part, page_want}
 use Rattle.ct_base.specs.Rules.{HasNone, HasRoom}
+use Rattle.std.specs.Prelude.{map}
+use Rattle.ct_grow.proofs.Accounted.{counted_off, counted_same}
 use Rattle.ct_parts.proofs.Lengths.{partition_bounds}
 use Rattle.ct_parts.proofs.Lists.{base-is, part_partition}
 use Rattle.ct_base.specs.View.{view, inode_count}
@@ -28,7 +30,7 @@ level_from-fits (suc steps) n end le = elim (cases_Bool (nat_le end (part_bytes 
 pub level_fits : (end : ℕ) → end ≤ 2 ^ 39 → (end ≤ part_bytes (level_for end)) × (level_for end ≤ 9)
 level_fits end le = level_from-fits 9 0 end le
 
-part_bytes-le : (i j : ℕ) → i ≤ j → part_bytes i ≤ part_bytes j
+pub part_bytes-le : (i j : ℕ) → i ≤ j → part_bytes i ≤ part_bytes j
 part_bytes-le i j le = let p : 8 ^ i ≤ 8 ^ j = pow-le-pow_right (lit< tt) le in omega (arith, p)
 
 -- A multiple of 256 at most at one length, after which a slot does not fit, stands there.
@@ -103,35 +105,20 @@ module _ {img : List ℕ} {f : Inode} {offset : ℕ} (c : CanPlan img f offset) 
         ]
   ]
 
--- a want in the partition that stays counts where it is
-counted-same : (f : Inode) (o : ℕ) → counted f (part f) (page_want (f.base + o)) ≡ page_want (f.base + o)
-counted-same f o = elim (cases_Bool ((nat_le f.level 9 && nat_le 0 (exchange_height f.level)) && (nat_le f.base (f.base + o) && nat_lt (f.base + o) (f.base + part_bytes f.level)))) [
-  | inl t ↦ cond-true _ _ _ t ∙ ap page_want (let e : f.base + o - f.base + f.base ≡ f.base + o = omega arith in e)
-  | inr u ↦ cond-false _ _ _ u
-]
-
--- and one past what growth brings too
-counted-past : (f : Inode) (p : Partition) (o : ℕ) → (f.level ≡ 15) ⊎ (part_bytes f.level ≤ o) → counted f p (page_want (p.base + o)) ≡ page_want (p.base + o)
-counted-past f p o (inl none) = cond-false _ _ _ (and_left _ _ (and_left _ _ (high f.level none)))
-  where
-    high : (level : ℕ) → level ≡ 15 → nat_le level 9 ≡ false
-    high level is = ap (λ k. nat_le k 9) is
-counted-past f p o (inr past) = cond-false _ _ _ (and_right (nat_le f.level 9 && nat_le 0 (exchange_height f.level)) _ (and_right (nat_le p.base (p.base + o)) _ (le-ltb (p.base + o) (p.base + part_bytes f.level) (omega (arith, past)))))
-
 pub wants_here : (img : List ℕ) (f : Inode) (offset number : ℕ) → slot_growth f offset ≡ None → (plan_for img f offset number).wants ≡ entry_wants (f.base + offset) number
 wants_here img f offset number none =
     ap (λ g. (grown (view img) (inode_count img) f g (λ new. counted f new (page_want (new.base + offset)) ∷ page_want (64 * number) ∷ [])).wants) none
-    ∙ ap (λ w. w ∷ page_want (64 * number) ∷ []) (counted-same f offset)
+    ∙ ap (λ w. w ∷ page_want (64 * number) ∷ []) (counted_same f (page_want (f.base + offset)))
 
-pub wants_grown : (img : List ℕ) (f : Inode) (offset number level : ℕ) → slot_growth f offset ≡ Some level → (f.level ≡ 15) ⊎ (part_bytes f.level ≤ offset)
-    → (plan_for img f offset number).wants ≡ growth_wants f (next_part (view img) (inode_count img) level) ++ entry_wants ((next_part (view img) (inode_count img) level).base + offset) number
-wants_grown img f offset number level some past =
-    let p = next_part (view img) (inode_count img) level in
+pub wants_grown : (img : List ℕ) (f : Inode) (offset number level : ℕ) → slot_growth f offset ≡ Some level
+    → (plan_for img f offset number).wants
+    ≡ growth_wants f (next_part (view img) (inode_count img) level) ++ (map (counted f (next_part (view img) (inode_count img) level)) (page_want ((next_part (view img) (inode_count img) level).base + offset) ∷ []) ++ page_want (64 * number) ∷ [])
+wants_grown img f offset number level some =
     ap (λ g. (grown (view img) (inode_count img) f g (λ new. counted f new (page_want (new.base + offset)) ∷ page_want (64 * number) ∷ [])).wants) some
-    ∙ ap (λ w. growth_wants f p ++ w ∷ page_want (64 * number) ∷ []) (counted-past f p offset past)
 
-pub is_past : {f : Inode} {offset level : ℕ} → GrowsFor f offset level → (f.level ≡ 15) ⊎ (part_bytes f.level ≤ offset)
-is_past {f} {offset} {level} g = elim (cases_eq f.level 15) [ inl none ↦ inl none | inr has ↦ inr (omega (arith, g.past has)) ]
+-- the slot lies past what growth brings
+pub counted_past : {f : Inode} {offset level : ℕ} → GrowsFor f offset level → (p : Partition) → counted f p (page_want (p.base + offset)) ≡ page_want (p.base + offset)
+counted_past {f} {offset} g p = counted_off f p (page_want (p.base + offset)) (λ has. inr (omega (arith, g.past has)))
 
 -- a partition ends at the last address at most
 pub part_high : (p : Partition) → IsPart p → part_end p ≤ 2 ^ 48

@@ -1,76 +1,36 @@
 -- What stands once the words of a new entry are there, and where a crash lands.
-use Rattle.std.proofs.Common.{◌≡◌, ℕ, ◌+◌, ◌*◌, ◌<◌, true, List, [], ◌∷◌, ◌++◌, refl, sym, ap, ◌∙◌, subst, inl, inr, Some, None, Option, arith}
-use Rattle.std.specs.Prelude.{◌⊎◌, unwrap_or}
-use Rattle.std.specs.List.{list_all}
-use Rattle.std.proofs.lemmas.Bool.{and_from}
+use Rattle.std.proofs.Common.{◌≡◌, ℕ, ◌+◌, ◌*◌, ◌<◌, List, [], ◌∷◌, ◌++◌, sym, ap, ◌∙◌, subst, inl, inr, arith}
 use Rattle.ct_base.specs.declared.inode.Inode.{Inode}
 use Rattle.ct_base.specs.Head.{HasHead}
-use Rattle.ct_base.specs.Named.{Named, Leads}
+use Rattle.ct_base.specs.Named.{Leads}
 use Rattle.ct_base.specs.Objects.{Object}
-use Rattle.ct_base.specs.Path.{is_name}
-use Rattle.ct_base.specs.Rules.{mapped, names, slots, AreEntries, AreNamesApart}
-use Rattle.ct_base.specs.Settled.{Pair, settled, with_pairs, HasFewPairs, IsRecord, IsShut}
-use Rattle.ct_base.specs.Slots.{slot_inode}
+use Rattle.ct_base.specs.Rules.{mapped, names, slots}
+use Rattle.ct_base.specs.Settled.{settled, IsRecord, IsShut}
 use Rattle.ct_base.specs.View.{view, inode_count}
 use Rattle.ct_base.specs.Walk.{word, named_page, next, page_at, page_count}
 use Rattle.ct_frames.specs.Agrees.{Agrees}
 use Rattle.ct_frames.specs.Free.{FreePages}
 use Rattle.ct_image.proofs.Steps.{named_page-zero, next-at, page_at-root, page_at-entry}
-use Rattle.ct_pm.specs.Device.{LeavesOnly}
-use Rattle.ct_pm.specs.Images.{History}
-use Rattle.ct_pm.proofs.Told.{both, weaker}
-use Rattle.ct_record.specs.Record.{SettlesTo, SettlesToEither}
+use Rattle.ct_record.specs.Record.{SettlesTo}
 use Rattle.ct_record.proofs.Lawful.{settles_head, shut_few}
 use Rattle.ct_state.proofs.Bytes.{objects-in}
 use Rattle.ct_state.proofs.Created.{created_sound, created_stands, new_file, new_dir}
-use Rattle.ct_state.proofs.Resolve.{no_slot, stand_lookup}
+use Rattle.ct_state.proofs.Followed.{followed, all_names}
 use Rattle.ct_state.proofs.Settle.{settled_idle, AgreeOffRecord}
 use Rattle.ct_state.proofs.States.{off_state, SameHead}
 use Rattle.ct_state.specs.Alike.{IsWhole}
 use Rattle.ct_state.specs.Leads.{LeadsTo}
-use Rattle.ct_tree.specs.Entries.{lookup}
-use Rattle.ct_tree.specs.Lands.{Lands, files}
+use Rattle.ct_tree.specs.Lands.{files}
 use Rattle.ct_tree.specs.Ordered.{IsTree}
 use Rattle.ct_tree.specs.Stands.{Stands}
-use Rattle.ct_tree.specs.Tree.{Tree, Entries, File, Dir, none}
-use Rattle.ct_tree.proofs.Ordered.{put_tree, found_tree}
+use Rattle.ct_tree.specs.Tree.{Tree, File, Dir}
+use Rattle.ct_tree.proofs.Ordered.{put_tree}
 use Rattle.ct_fs.specs.Calls.{StandsFor}
 use Rattle.ct_fs.specs.Mounted.{IsAtRest}
-use Rattle.ct_fs.proofs.Resting.{same_lands}
+use Rattle.ct_fs.proofs.Landed.{same_as}
+use Rattle.ct_fs.specs.Landing.{LandsAs}
 use Rattle.ct_fs.specs.Entry.{HasEntry, KeepsTables, empty_node, with_node}
 use Rattle.ct_fs.proofs.Entering.{Enters, creates, entry_keeps, entry_kind}
-
--- ---- names that lead to an object lead in the tree too
-
-record Followed (fs : ℕ → Object) (d : ℕ) (xs : List (List ℕ)) (t : Tree) : Type 0 where
-  node : Tree
-  to : LeadsTo t xs node
-  stands : Stands fs d node
-
-follow : (fs : ℕ → Object) → AreNamesApart fs → (c d : ℕ) (x : List ℕ) (xs : List (List ℕ)) (es : Entries) → IsTree (Dir es) → Stands fs c (Dir es) → (s : Named (fs c) x)
-    → ((child : Tree) → IsTree child → Stands fs (slot_inode (fs c) s.offset) child → Followed fs d xs child) → (o : Option Tree) → lookup x es ≡ o → Followed fs d (x ∷ xs) (Dir es)
-unfolding LeadsTo
-follow fs apart c d x xs es tree st s go None is = absurd (no_slot fs (fs c) x es tree st.0 is s)
-follow fs apart c d x xs es tree st s go (Some child) is =
-    let found = stand_lookup fs (fs c) x child es st.1 is in
-    let same : found.slot.offset ≡ s.offset = apart c found.slot.offset s.offset found.slot.slot s.slot (found.slot.name ∙ sym s.name) in
-    let below = go child (subst (λ o. IsTree (unwrap_or o (Dir none))) is (found_tree x es tree)) (subst (λ o. Stands fs (slot_inode (fs c) o) child) same found.stands) in
-    record { node = below.node; to = (child, is, below.to); stands = below.stands }
-
-followed : (fs : ℕ → Object) → AreNamesApart fs → (c d : ℕ) (xs : List (List ℕ)) (t : Tree) → IsTree t → Stands fs c t → Leads fs c xs d → Followed fs d xs t
-unfolding Leads LeadsTo
-followed fs apart c d [] t tree st leads = record { node = t; to = refl; stands = subst (λ j. Stands fs j t) leads st }
-followed fs apart c d (x ∷ xs) (File bytes) tree st leads = absurd (omega (arith, st.kind, leads.0.slot.dir))
-followed fs apart c d (x ∷ xs) (Dir es) tree st leads =
-    follow fs apart c d x xs es tree st leads.0 (λ child is_tree stands. followed fs apart (slot_inode (fs c) leads.0.offset) d xs child is_tree stands leads.1) (lookup x es) refl
-
--- the names on the way are names, and one more
-all_names : (fs : ℕ → Object) → AreEntries fs → (c d : ℕ) (xs : List (List ℕ)) (x : List ℕ) → is_name x ≡ true → Leads fs c xs d → list_all is_name (xs ++ (x ∷ [])) ≡ true
-unfolding Leads
-all_names fs entries c d [] x is leads = and_from _ _ is refl
-all_names fs entries c d (y ∷ ys) x is leads =
-    let s = leads.0 in
-    and_from _ _ (ap is_name (sym s.name) ∙ (entries c s.offset s.slot).name) (all_names fs entries (slot_inode (fs c) s.offset) d ys x is leads.1)
 
 -- ---- the words after the record
 
@@ -152,22 +112,13 @@ entry_agrees k a =
 
 -- ---- where a crash lands
 
--- what settles to words at rest lands on their tree
-pub settles_lands : {words : List ℕ} {t : Tree} → IsAtRest words → StandsFor words t → (image : List ℕ) → IsRecord image → SettlesTo words image → Lands image t
-settles_lands {words} rest s image is settles =
+-- what settles to words at rest lands on their objects
+pub settles_as : {words : List ℕ} → IsAtRest words → (image : List ℕ) → IsRecord image → SettlesTo words image → LandsAs (files words) image
+settles_as {words} rest image is settles =
     let lawful : IsRecord words = rest.head.recorded in
     let k = settles_head words image lawful is settles in
     let same : SameHead words image = record { lawful = lawful; lawful_too = is; words = k.head; size = k.size } in
     let agree : AgreeOffRecord (settled words) (settled image) =
     record { words = λ w side. settles.others w (λ inside. elim side [ inl low ↦ omega (arith, low, inside.0) | inr high ↦ omega (arith, high, inside.1) ]); size = settles.size } in
     let whole : IsWhole (settled words) = subst IsWhole (sym (settled_idle words rest.shut rest.unstaged)) (record { tables = rest.tables; mapped = rest.sound mapped }) in
-    same_lands rest s (off_state same agree whole)
-
--- a crash that leaves the words without the pairs, or with all, lands on the one tree or the other
-pub either_lands : {old new : Option History} {most : ℕ} {was done : List ℕ} {t u : Tree} (pairs : List Pair) → IsAtRest was → StandsFor was t → IsAtRest done → StandsFor done u → done ≡ with_pairs pairs was
-    → LeavesOnly old new (SettlesToEither pairs was) → LeavesOnly old new (HasFewPairs most) → LeavesOnly old new (λ image. Lands image t ⊎ Lands image u)
-either_lands {t = t} {u = u} pairs q s r v is either lawful =
-    weaker (λ image. Lands image t ⊎ Lands image u) (λ image has. elim has.0 [
-      | inl without ↦ inl (settles_lands q s image has.1.lawful without)
-      | inr all ↦ inr (settles_lands r v image has.1.lawful (subst (λ (words : List ℕ). SettlesTo words image) (sym is) all))
-    ]) (both either lawful)
+    same_as rest (off_state same agree whole)

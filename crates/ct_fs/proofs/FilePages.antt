@@ -17,7 +17,12 @@ use Rattle.ct_record.specs.Record.{InRecord, SettlesTo}
 use Rattle.ct_state.proofs.Entry.{owns_back, part-same}
 use Rattle.ct_state.proofs.Settle.{alike_off, cells_off, settled_idle, AgreeOffRecord}
 use Rattle.ct_fs.specs.Entry.{IsEntryWord, IsSpot}
-use Rattle.ct_fs.specs.Mounted.{IsAtRest}
+use Rattle.ct_fs.specs.Mounted.{IsAtRest, OffFiles}
+use Rattle.ct_base.specs.Wants.{Want}
+use Rattle.ct_frames.specs.Free.{FreePages}
+use Rattle.ct_state.specs.Alike.{Alike}
+use Rattle.ct_walk.specs.Growth.{Grown}
+use Rattle.std.proofs.lemmas.Bool.{false_from_ne_true}
 use Rattle.ct_fs.proofs.Entering.{Enters, creates, entry_keeps, kind_stays, spot_few, spot_room}
 
 room_of : (img : List ℕ) {i : ℕ} → Sound img → Owns (view img) (inode_count img) i → HasRoom (inode (view img) i)
@@ -35,7 +40,7 @@ base_whole {f} room =
     omega (arith, parts, factor, room.part.aligned)
 
 -- the page of a live file's address
-file_cell : (img : List ℕ) {page : ℕ} → Sound img → (is : IsFilePage img page) → page_at img 4 (is.address / 4096) ≡ page
+pub file_cell : (img : List ℕ) {page : ℕ} → Sound img → (is : IsFilePage img page) → page_at img 4 (is.address / 4096) ≡ page
 file_cell img sound is = sym (walk-cell img is.address (high_in (room_of img sound is.owns) is.inside.from is.inside.to)) ∙ is.is
 
 -- words that lie in the one page of an address
@@ -96,6 +101,7 @@ settled_page {words} image rest settles is =
       kind = subst (λ b. (inode b is.file).kind ≡ 1) alike.bytes is.kind;
       inside = inside;
       is = walk-cell words is.address high ∙ sym (cells_off agree 4 (is.address / 4096)) ∙ sym (walk-cell (settled image) is.address high) ∙ is.is;
+      some = is.some;
     }
 
 -- no page comes under a live file by a new entry
@@ -114,7 +120,22 @@ entry_page {old} {new} {number = number} e is =
       kind = sym (kind_stays e is.file owns.live.number other) ∙ is.kind;
       inside = inside;
       is = walk-cell old is.address high ∙ sym ((entry_keeps e).cells 4 (is.address / 4096) (omega arith)) ∙ sym (walk-cell new is.address high) ∙ is.is;
+      some = is.some;
     }
+
+-- no page comes under one while pages are made that lie off the files
+pub grown_page : {old new : List ℕ} {wants : List Want} {before after : FreePages} {page : ℕ} → IsAtRest old → Grown old new wants before after → Alike old new → OffFiles old wants → IsFilePage new page → IsFilePage old page
+grown_page {old} {new} {wants} rest g alike off is =
+    let owns : Owns (view old) (inode_count old) is.file = subst (λ b. Owns b (inode_count old) is.file) alike.bytes (subst (λ n. Owns (view new) n is.file) alike.inodes is.owns) in
+    let kind : (inode (view old) is.file).kind ≡ 1 = subst (λ b. (inode b is.file).kind ≡ 1) alike.bytes is.kind in
+    let inside : IsIn (part_of (view old) is.file) is.address = subst (λ b. IsIn (part_of b is.file) is.address) alike.bytes is.inside in
+    let room = room_of old rest.sound owns in
+    let high = high_in room inside.from inside.to in
+    let q = is.address / 4096 in
+    let there : IsIn (part_of (view old) is.file) (q * 4096) = record { from = omega (arith, inside.from, base_whole room); to = omega (arith, inside.to) } in
+    let low : 10 * 2 ^ 27 ≤ q = omega (arith, room.part.low, inside.from) in
+    let cell = g.cells 4 q (omega arith) (false_from_ne_true _ (λ wanted. off q low wanted is.file owns kind there)) in
+    record { file = is.file; address = is.address; owns = owns; kind = kind; inside = inside; is = walk-cell old is.address high ∙ sym cell ∙ sym (walk-cell new is.address high) ∙ is.is; some = is.some }
 
 -- no record lies under a file
 pub record_spares : {img : List ℕ} (word : ℕ) → IsAtRest img → InRecord word → IsFilePage img (word / 512) → ⊥

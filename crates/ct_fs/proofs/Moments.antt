@@ -141,3 +141,14 @@ pub any_moment : (start : List ℕ) (old new : Option History) → Formats start
 any_moment start old new (inl s) = weaker (IsFormatImage start) (start_or start) s.images
 any_moment start old new (inr f) =
     and_then (and_then (weaker (IsFormatImage start) (start_or start) f.before) (weaker (IsFormatImage start) (λ image is. inr (inl is)) f.between)) (weaker (IsFormatImage start) (λ image is. inr is) f.after)
+
+-- the words as they read, where the work stopped
+module _ (pages : ℕ) (least : 256 ≤ pages) (most : pages ≤ 262144) (w : List ℕ) (size : length w ≡ 512 * pages) where
+  pub start_reads : (now : List ℕ) → (now ≡ w) ⊎ (now ≡ set w 0 0) → IsFormatImage w now
+  start_reads now is = start_or w now (unmarked pages least most w size now is)
+
+  pub laid_reads : (words now : List ℕ) → words ≡ set w 0 0 → SameOff IsLaidOut now words → IsFormatImage w now
+  laid_reads words now is same = inr (inl (laying pages least most w size words now is same))
+
+  pub end_reads : (n : ℕ) → 2 ≤ n → n ≤ 1048576 → (words : List ℕ) → length words ≡ 512 * pages → word words 0 ≡ 0 → HasWords pages n words → (now : List ℕ) → (now ≡ words) ⊎ (now ≡ set words 0 magic_word) → IsFormatImage w now
+  end_reads n two few words fits zero_word has now is = inr (marking pages least most n two few words fits zero_word has now is)

@@ -12,10 +12,8 @@ use Rattle.ct_fs.specs.declared.mount.FsError.{FsError}
 use Rattle.ct_fs.specs.declared.mount.State.{State}
 use Rattle.ct_fs.specs.Entry.{empty_node, with_node}
 use Rattle.ct_fs.specs.Makes.{kind_of, make_op}
-use Rattle.ct_fs.specs.Plans.{MakesIn}
 use Rattle.ct_fs.specs.declared.create.Kind.{Kind}
 use Rattle.ct_fs.specs.declared.create.Kind.TheVariants.{File as file, Directory as directory}
-use Rattle.ct_tree.specs.Need.{IsParentAt}
 
 split_last : (xs : List (List ℕ)) → xs ≢ [] → parent xs ++ (last_name xs ∷ []) ≡ xs
 split_last [] some = absurd (some refl)
@@ -29,10 +27,6 @@ no_names xs is none = false≢true (sym (ap (λ ys. is_name (last_name ys)) none
 pub make_refuses : (kind : Kind) (t : Tree) (path : List ℕ) → refusal t (make_op kind path) ≡ make_refusal t path
 make_refuses file t path = refl
 make_refuses directory t path = refl
-
-pub makes_in : (kind : Kind) (w path : List ℕ) (dir : ℕ) → IsParentAt w path dir → MakesIn w dir (make_op kind path)
-makes_in file w path dir at = at
-makes_in directory w path dir at = at
 
 effect_is : (kind : Kind) (t : Tree) (path : List ℕ) → (effect t (make_op kind path)).1 ≡ put t (names path) (empty_node (kind_of kind))
 effect_is file t path = refl

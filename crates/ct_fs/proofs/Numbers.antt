@@ -1,5 +1,5 @@
 -- The lowest free number is one of an inode that is free.
-use Rattle.std.proofs.Common.{◌≡◌, ℕ, zero, suc, ◌+◌, ◌<◌, ◌≤◌, Some, sym, ap, ◌∙◌, inl, inr, arith}
+use Rattle.std.proofs.Common.{◌≡◌, ℕ, zero, suc, ◌+◌, ◌<◌, ◌≤◌, Some, None, sym, ap, ◌∙◌, inl, inr, arith}
 use Rattle.std.specs.Prelude.{◌==◌}
 use Rattle.std.proofs.lemmas.Bool.{cases_Bool, cond-true, cond-false, eqb-true}
 use Rattle.ct_base.specs.Inode.{inode, IsNumber}
@@ -26,3 +26,6 @@ free_is b count x is =
 -- as the device tells how many inodes there are
 pub first_number : (b : ℕ → ℕ) (count told x : ℕ) → told ≡ count → Some x ≡ first_free_number b told → first_free_number b count ≡ Some x
 first_number b count told x same is = sym (is ∙ ap (first_free_number b) same)
+
+pub no_number : (b : ℕ → ℕ) (count told : ℕ) → told ≡ count → None ≡ first_free_number b told → first_free_number b count ≡ None
+no_number b count told same is = sym (is ∙ ap (first_free_number b) same)

@@ -10,11 +10,11 @@ use Rattle.ct_base.specs.Slots.{IsSlot, Names, free_slot_from, slot_inode}
 use Rattle.ct_base.specs.View.{view, inode_count}
 use Rattle.ct_parts.proofs.Live.{live_stand}
 use Rattle.ct_state.proofs.Bytes.{objects-in, objects-cases}
+use Rattle.ct_image.proofs.Turns.{injected, count_below-every}
 use Rattle.ct_tree.specs.Lands.{files}
 use Rattle.ct_fs.specs.Mounted.{IsAtRest}
 use Rattle.ct_fs.specs.Plans.{CanPlan}
 use Rattle.ct_fs.specs.Spots.{IsNextSlot}
-use Rattle.ct_fs.proofs.Counting.{injected, count_below-every}
 
 -- the slots before the first empty one are used
 before_free : (f : Object) (n o k : ℕ) → o + 256 * k < free_slot_from f o n → little f.at (o + 256 * k) 256 ≢ 0

@@ -1,13 +1,9 @@
 -- Words at rest that stand for a tree, and images of their state.
 use Rattle.std.proofs.Common.{ℕ, List, Option, sym, subst}
 use Rattle.ct_base.specs.Rules.{Sound}
-use Rattle.ct_base.specs.State.{SameState}
 use Rattle.ct_frames.specs.Free.{FreePages}
 use Rattle.ct_pm.specs.Images.{History}
-use Rattle.ct_state.specs.Alike.{Alike}
-use Rattle.ct_state.proofs.Carry.{files-same}
 use Rattle.ct_state.proofs.Settle.{settled_idle}
-use Rattle.ct_state.proofs.States.{state_lands}
 use Rattle.ct_tree.specs.Lands.{Lands, files}
 use Rattle.ct_tree.specs.Stands.{Stands}
 use Rattle.ct_tree.specs.Tree.{Tree}
@@ -22,11 +18,3 @@ pub rest_lands : {w : List ℕ} {t : Tree} → IsAtRest w → StandsFor w t → 
 rest_lands {w} {t} rest st =
     let idle = settled_idle w rest.shut rest.unstaged in
     record { head = rest.head; sound = subst Sound (sym idle) rest.sound; stands = subst (λ x. Stands (files x) 1 t) (sym idle) st.stands }
-
--- an image of the same state lands on the tree
-pub same_lands : {w image : List ℕ} {t : Tree} → IsAtRest w → StandsFor w t → SameState w image → Lands image t
-same_lands rest st same = state_lands same (rest_lands rest st)
-
--- words that look alike stand for the same
-pub alike_stands : {w v : List ℕ} {t : Tree} → Alike w v → StandsFor w t → StandsFor v t
-alike_stands {t = t} alike st = record { tree = st.tree; stands = subst (λ fs. Stands fs 1 t) (sym (files-same alike)) st.stands }

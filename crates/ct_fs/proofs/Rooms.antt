@@ -1,10 +1,9 @@
--- After growth the words are at rest again, and stand for the same tree.
-use Rattle.std.proofs.Common.{◌≡◌, ◌≢◌, ℕ, ◌+◌, ◌*◌, ◌<◌, ◌≤◌, List, sym, ap, ◌∙◌, subst, ◌⊎◌, inl, inr, arith}
-use Rattle.ct_base.specs.Head.{HasHead, HeadHolds, count}
+-- After growth the words are at rest again, and have the same objects.
+use Rattle.std.proofs.Common.{◌≡◌, ◌≢◌, ℕ, ◌+◌, ◌*◌, ◌<◌, ◌≤◌, List, Option, sym, ap, ◌∙◌, subst, ◌⊎◌, inl, inr, arith}
+use Rattle.ct_base.specs.Head.{HasHead}
 use Rattle.ct_base.specs.Inode.{inode, IsPart, Partition, free_parts, live_parts}
 use Rattle.ct_base.specs.Plan.{next_part}
 use Rattle.ct_base.specs.Rules.{entries, once, inodes, placed, apart, tails, mapped, headers, rest, slots, names, named, reached, Sound, AreEntries, AreNamesApart, AreNamed, AreReached}
-use Rattle.ct_base.specs.Settled.{HasPages}
 use Rattle.ct_base.specs.State.{SameState}
 use Rattle.ct_base.specs.View.{view, inode_count}
 use Rattle.ct_base.specs.Walk.{word}
@@ -13,19 +12,19 @@ use Rattle.ct_grow.proofs.Readied.{own_part}
 use Rattle.ct_grow.proofs.Wanting.{unwanted}
 use Rattle.ct_grow.specs.Grown.{CanGrow, CellsMoved, IsReady, Promoted}
 use Rattle.ct_grow.specs.Moments.{HasGrown, IsBeforeOrAfter}
+use Rattle.ct_pm.specs.Images.{History}
+use Rattle.ct_pm.specs.Phase.{Phase}
+use Rattle.ct_pm.proofs.Phases.{phase_weaker}
 use Rattle.ct_record.proofs.Lawful.{shut_few}
 use Rattle.ct_state.specs.Alike.{IsWhole}
 use Rattle.ct_state.proofs.Carry.{files-same, sound-same}
 use Rattle.ct_state.proofs.Shut.{shut_alike, shut_whole}
-use Rattle.ct_state.proofs.States.{SameHead, head_of, head_on, head_rules, state_lands}
-use Rattle.ct_tree.specs.Lands.{Lands, files}
-use Rattle.ct_tree.specs.Stands.{Stands}
-use Rattle.ct_tree.specs.Tree.{Tree}
-use Rattle.ct_fs.proofs.Accounts.{head_is}
-use Rattle.ct_fs.proofs.Chosen.{first_free}
+use Rattle.ct_state.proofs.States.{SameHead, head_of, head_on, head_rules}
+use Rattle.ct_tree.specs.Lands.{files}
+use Rattle.ct_fs.proofs.Chosen.{first_free, head_is}
 use Rattle.ct_fs.proofs.Neutral.{no_entry, no_table}
-use Rattle.ct_fs.proofs.Resting.{same_lands}
-use Rattle.ct_fs.specs.Calls.{StandsFor}
+use Rattle.ct_fs.proofs.Landed.{same_as, state_as}
+use Rattle.ct_fs.specs.Landing.{LandsAs}
 use Rattle.ct_fs.specs.Mounted.{IsAtRest}
 
 module _ {w new : List ℕ} {dir : ℕ} {p : Partition} (r : IsAtRest w) (pr : Promoted w new dir p) (ready : IsReady new) where
@@ -53,37 +52,19 @@ module _ {w new : List ℕ} {dir : ℕ} {p : Partition} (r : IsAtRest w) (pr : P
   pub moved_files : files new ≡ files w
   moved_files = pr.objects
 
-  pub moved_stands : {t : Tree} → StandsFor w t → StandsFor new t
-  moved_stands {t} st = record { tree = st.tree; stands = subst (λ fs. Stands fs 1 t) (sym moved_files) st.stands }
-
-  pub moved_lands : {t : Tree} → StandsFor w t → Lands new t
-  moved_lands {t} st =
+  pub moved_as : LandsAs (files w) new
+  moved_as =
       let whole : IsWhole new = record { tables = ready.tables; mapped = ready.rules mapped (omega arith) } in
       let alike = shut_alike ready.shut whole in
-      record {
-        head = moved_head;
-        sound = sound-same alike (shut_whole ready.shut whole) moved_sound;
-        stands = subst (λ fs. Stands fs 1 t) (sym (files-same alike)) (moved_stands st).stands;
-      }
+      record { head = moved_head; sound = sound-same alike (shut_whole ready.shut whole) moved_sound; objects = files-same alike ∙ moved_files }
 
--- an image of growth lands on the tree
-either_lands : {w image : List ℕ} {dir : ℕ} {p : Partition} {t : Tree} → IsAtRest w → StandsFor w t → SameState w image ⊎ HasGrown w dir p image → Lands image t
-either_lands r st (inl same) = same_lands r st same
-either_lands r st (inr grown) = state_lands grown.state (moved_lands r grown.promoted grown.ready st)
+-- an image of growth lands on the objects
+growth_as : {w image : List ℕ} {dir : ℕ} {p : Partition} → IsAtRest w → SameState w image ⊎ HasGrown w dir p image → LandsAs (files w) image
+growth_as r (inl same) = same_as r same
+growth_as r (inr grown) = state_as grown.state (moved_as r grown.promoted grown.ready)
 
-pub growth_lands : {w image : List ℕ} {dir : ℕ} {p : Partition} {t : Tree} → IsAtRest w → StandsFor w t → IsBeforeOrAfter w dir p image → Lands image t
-growth_lands r st has = either_lands r st has.state
-
--- and has its pages
-state_pages : {w image : List ℕ} → HeadHolds w count → SameState w image → HasPages image
-state_pages h same = let c = (same.head count).0 h in (omega (arith, c.0), c.1)
-
-either_pages : {w image : List ℕ} {dir : ℕ} {p : Partition} → IsAtRest w → SameState w image ⊎ HasGrown w dir p image → HasPages image
-either_pages r (inl same) = state_pages r.head.count same
-either_pages r (inr grown) = state_pages (moved_head r grown.promoted grown.ready).count grown.state
-
-pub growth_pages : {w image : List ℕ} {dir : ℕ} {p : Partition} → IsAtRest w → IsBeforeOrAfter w dir p image → HasPages image
-growth_pages r has = either_pages r has.state
+pub growth_phase : {w now : List ℕ} {dir : ℕ} {p : Partition} {from to : Option History} → IsAtRest w → Phase (IsBeforeOrAfter w dir p) 150 from to now → Phase (LandsAs (files w)) 150 from to now
+growth_phase {w} r phase = phase_weaker (LandsAs (files w)) (λ image has. growth_as r has) (omega arith) phase
 
 -- once it is done the staging slots are still empty
 module _ {w new : List ℕ} {dir level : ℕ} (r : IsAtRest w) (can : CanGrow w dir level) (cells : CellsMoved w new (inode (view w) dir) (next_part (view w) (inode_count w) level)) (ready : IsReady new) where

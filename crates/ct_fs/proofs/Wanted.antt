@@ -1,15 +1,15 @@
 -- The pages of a slot and of an inode, and the slot itself.
-use Rattle.std.proofs.Common.{◌≡◌, ℕ, zero, suc, ◌+◌, ◌-◌, ◌*◌, ◌/◌, ◌%◌, ◌^◌, ◌<◌, ◌≤◌, true, false, List, [], ◌∷◌, refl, ◌⊎◌, inl, inr, arith}
+use Rattle.std.proofs.Common.{◌≡◌, ◌≢◌, ap, ℕ, zero, suc, ◌+◌, ◌-◌, ◌*◌, ◌/◌, ◌%◌, ◌^◌, ◌<◌, ◌≤◌, true, false, List, [], ◌∷◌, refl, ◌⊎◌, inl, inr, arith}
 use Rattle.std.specs.Prelude.{nat_le, nat_lt, ◌==◌, ◌&&◌, ◌||◌}
 use Rattle.std.proofs.lemmas.Bool.{cases_Bool, cases_lt, and_left, and_parts, and_right, eqb-true, false_from_ne_true, leb-true, lt-leb, ltb-true, le-ltb, ne_eqb, or_cases}
 use Rattle.ct_base.specs.Inode.{inode, little, part_bytes}
 use Rattle.ct_base.specs.Objects.{Object}
 use Rattle.ct_base.specs.Plan.{page_want}
-use Rattle.ct_base.specs.Rules.{Owns}
+use Rattle.ct_base.specs.Rules.{ArePartsApart, Owns}
 use Rattle.ct_base.specs.Slots.{IsSlot, free_slot, free_slot_from}
 use Rattle.ct_base.specs.View.{view, inode_count}
 use Rattle.ct_base.specs.Wants.{is_on_path, is_wanted}
-use Rattle.ct_fs.specs.Mounted.{AreOwned}
+use Rattle.ct_fs.specs.Mounted.{AreOwned, OffFiles}
 
 -- ---- the slot
 

@@ -3,9 +3,9 @@ use Rattle.std.specs.Prelude.{◌≡◌, ◌⊎◌, ℕ, ◌<◌, List, [], Ok, 
 use Rattle.std.specs.declared.result.Result.{Result}
 use Rattle.ct_base.specs.Free.{HasFreePages}
 use Rattle.ct_base.specs.Inode.{free_parts, live_parts}
-use Rattle.ct_base.specs.Plan.{first_free_number}
+use Rattle.ct_base.specs.Plan.{Plan, first_free_number}
 use Rattle.ct_base.specs.View.{view, inode_count}
-use Rattle.ct_tree.specs.Need.{Grows, HasNeed}
+use Rattle.ct_tree.specs.Need.{Grows, HasNeed, HasPlan, NeedsRoomIn}
 use Rattle.ct_tree.specs.Runs.{CallAnswers, MakesNode}
 use Rattle.ct_tree.specs.Step.{Op, refusal, step}
 use Rattle.ct_tree.specs.Tree.{Tree}
@@ -21,7 +21,7 @@ LacksInode img op = MakesNode op × (first_free_number (view img) (inode_count i
 
 -- the call grows an object to the level, and no partition of the level is free
 abbrev pub LacksPartition : List ℕ → Op → ℕ → Type 0
-LacksPartition img op level = Grows img op level × (free_parts (live_parts (view img) (inode_count img)) level ≡ [])
+LacksPartition img op level = (i : ℕ) × Grows img op i level × (free_parts (live_parts (view img) (inode_count img)) level ≡ [])
 
 -- so many pages are free, and the call takes more
 abbrev pub LacksPages : List ℕ → Op → ℕ → ℕ → Type 0
@@ -33,6 +33,17 @@ ForSpace img op NoInode = LacksInode img op
 ForSpace img op (NoPartition level) = ¬ LacksInode img op × LacksPartition img op level
 ForSpace img op (NoPages free need) = ¬ LacksInode img op × ((level : ℕ) → ¬ LacksPartition img op level) × LacksPages img op free need
 ForSpace img op r = ⊥
+
+-- the call lacks nothing of partitions and pages, or it does and this says so
+abbrev pub SpaceAnswers : {T : Type 0} → List ℕ → Op → Result T Refusal → Type 0
+SpaceAnswers img op (Ok value) = ((level : ℕ) → ¬ LacksPartition img op level) × ((free need : ℕ) → ¬ LacksPages img op free need)
+SpaceAnswers img op (Err r) = ForSpace img op r
+
+-- the call has this plan and no other, and where it grows an object there is one
+pub record HasOnlyPlan (img : List ℕ) (op : Op) (plan : Plan) : Type 0 where
+  pub has : HasPlan img op plan
+  pub only : (other : Plan) → HasPlan img op other → other ≡ plan
+  pub object : (level : ℕ) → plan.growth ≡ Some level → (i : ℕ) × NeedsRoomIn img op i
 
 -- nothing stands against the call: no check of the tree fails, and there is space
 pub record CanStart (img : List ℕ) (t : Tree) (op : Op) : Type 0 where

@@ -1,17 +1,18 @@
 -- What a call does to a mounted file system.
-use Rattle.std.specs.Prelude.{◌≡◌, ◌⊎◌, ℕ, ◌≤◌, List, Some, None, Ok, Err, IsSomeAnd}
+use Rattle.std.specs.Prelude.{◌≡◌, ◌⊎◌, ℕ, ◌≤◌, List, Some, None, Ok, Err, IsOk, IsSomeAnd}
 use Rattle.std.specs.declared.option.Option.{Option}
 use Rattle.std.specs.declared.result.Result.{Result}
 use Rattle.ct_base.specs.Causes.{Rose}
 use Rattle.ct_base.specs.View.{inode_count}
-use Rattle.ct_pm.specs.Device.{LeavesOnly, NothingPending}
+use Rattle.ct_pm.specs.Device.{NothingPending}
 use Rattle.ct_pm.specs.Images.{History}
+use Rattle.ct_pm.specs.Phase.{Phase}
 use Rattle.ct_tree.specs.Lands.{Lands, files}
 use Rattle.ct_tree.specs.Ordered.{IsTree}
 use Rattle.ct_tree.specs.Stands.{Stands}
-use Rattle.ct_tree.specs.Step.{Op, step}
+use Rattle.ct_tree.specs.Step.{Op, create, mkdir, step}
 use Rattle.ct_tree.specs.Tree.{Tree}
-use Rattle.ct_fs.specs.Answers.{IsAnswer, IsTold}
+use Rattle.ct_fs.specs.Answers.{CanStart, IsAnswer, IsTold}
 use Rattle.ct_fs.specs.Mounted.{IsAtRest, Volume}
 use Rattle.ct_fs.specs.Seen.{device_in, faults_in, ready_in}
 use Rattle.ct_fs.specs.declared.mount.FsError.{FsError}
@@ -22,6 +23,12 @@ use Rattle.ct_fs.specs.declared.mount.State.{State}
 pub record StandsFor (img : List ℕ) (t : Tree) : Type 0 where
   pub tree : IsTree t
   pub stands : Stands (files img) 1 t
+
+-- the calls that change the tree, as many as there are
+abbrev pub IsChange : Op → Type 0
+IsChange (create path) = Unit {0}
+IsChange (mkdir path) = Unit {0}
+IsChange op = ⊥
 
 -- the tree after a call
 abbrev pub after : Tree → Op → Tree
@@ -51,6 +58,8 @@ pub record Does {D T : Type 0} {bound : _} (was : Volume D) (t : Tree) (op : Op)
   pub told : IsTold (inode_count (bound.words was.dev)) t op result
   pub leaves : Leaves was t op state result
   pub later : bound.faults was.dev ≤ faults_in state
-  -- whatever a crash may leave at a moment of the call lands on the tree before it or after it, and so do the words as they read
-  pub moments : IsSomeAnd (device_in state) (λ dev. LeavesOnly (bound.told was.dev) (bound.told dev) (λ image. Lands image t ⊎ Lands image (after t op)))
-  pub reads : IsSomeAnd (device_in state) (λ dev. Lands (bound.words dev) t ⊎ Lands (bound.words dev) (after t op))
+  -- a call that can start fails only with its device
+  pub succeeds : CanStart (bound.words was.dev) t op → ¬ Rose (bound.faults was.dev) (faults_in state) → IsOk result
+  -- whatever a crash may leave at a moment of the call lands on the tree before it or after it, has a lawful record of few pairs,
+  -- none of which names a word of a live file's page, and so do the words as they read; no step stores on such a page
+  pub phase : IsSomeAnd (device_in state) (λ dev. Phase (λ image. Lands image t ⊎ Lands image (after t op)) 5111 (bound.told was.dev) (bound.told dev) (bound.words dev))

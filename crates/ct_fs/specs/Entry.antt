@@ -1,12 +1,10 @@
 -- A new entry of a directory: what is there before it, and what its record leaves.
-use Rattle.std.specs.Prelude.{◌≡◌, ◌≢◌, ◌⊎◌, ℕ, ◌+◌, ◌*◌, ◌/◌, ◌%◌, ◌<◌, ◌≤◌, ◌==◌, if◌then◌else◌, true, List, [], ◌∷◌, ◌++◌, length, Result, Ok, Err}
-use Rattle.ct_base.specs.Free.{IsFilePage}
+use Rattle.std.specs.Prelude.{◌≡◌, ◌≢◌, ◌⊎◌, ℕ, ◌+◌, ◌*◌, ◌/◌, ◌%◌, ◌<◌, ◌≤◌, ◌==◌, if◌then◌else◌, true, List, [], ◌∷◌, ◌++◌, length}
 use Rattle.ct_base.specs.Inode.{IsNumber, inode, part_bytes}
 use Rattle.ct_base.specs.declared.inode.Inode.{Inode}
 use Rattle.ct_base.specs.Named.{Leads}
 use Rattle.ct_base.specs.Path.{is_name}
 use Rattle.ct_base.specs.Rules.{Owns}
-use Rattle.ct_base.specs.Settled.{Named, open_pairs, settled}
 use Rattle.ct_base.specs.Slots.{IsSlot, slot_name}
 use Rattle.ct_base.specs.View.{view, inode_count}
 use Rattle.ct_base.specs.Walk.{word, page_at}
@@ -14,7 +12,6 @@ use Rattle.ct_base.specs.Words.{Rewrites, place_at}
 use Rattle.ct_dir.specs.Packed.{slot_words}
 use Rattle.ct_inode.specs.Drafted.{inode_words}
 use Rattle.ct_pm.specs.Device.{IsIn}
-use Rattle.ct_record.specs.declared.idle.Broken.{Broken}
 use Rattle.ct_tree.specs.Lands.{files}
 use Rattle.ct_tree.specs.Resolve.{put}
 use Rattle.ct_tree.specs.Tree.{Tree, File, Dir, none}
@@ -64,11 +61,6 @@ pub record WritesEntry (old new : List ℕ) (dir : ℕ) (f : Inode) (offset : �
   pub size : RaisesSize named sized dir f.size (offset + 256)
   pub object : Rewrites sized new (64 * number) (inode_words (empty_inode kind))
 
--- the device behind either answer
-abbrev pub after_enter : {D : Type 0} → Result D (Broken D) → D
-after_enter (Ok dev) = dev
-after_enter (Err broken) = broken.dev
-
 -- each cell, page 0 and the length stay
 pub record KeepsTables (old new : List ℕ) : Type 0 where
   pub cells : (d x : ℕ) → d ≤ 4 → page_at new d x ≡ page_at old d x
@@ -89,10 +81,6 @@ IsSizeWord img dir word = IsIn (place_at img (64 * dir + 8)) 1 word
 abbrev pub IsEntryWord : List ℕ → ℕ → Inode → ℕ → ℕ → ℕ → Type 0
 IsEntryWord img dir f offset number word =
     IsIn (place_at img (f.base + offset)) 32 word ⊎ (IsSizeWord img dir word ⊎ IsIn (place_at img (64 * number)) 8 word)
-
--- no pair of the image's open record names a word of a page under a live file
-abbrev pub SparesReplay : List ℕ → Type 0
-SparesReplay image = (word : ℕ) → Named (open_pairs image) word → IsFilePage (settled image) (word / 512) → ⊥
 
 -- object i has the partition that it had
 abbrev pub KeepsPart : List ℕ → List ℕ → ℕ → Type 0

@@ -2,6 +2,7 @@ pub mod Answers
 pub mod Calls
 pub mod Entry
 pub mod Formatting
+pub mod Landing
 pub mod Looks
 pub mod Made
 pub mod Makes

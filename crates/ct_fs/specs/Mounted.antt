@@ -1,7 +1,7 @@
 -- What holds of a mounted file system between its calls.
 use Rattle.std.specs.Prelude.{◌≡◌, ℕ, ◌+◌, ◌*◌, ◌^◌, ◌<◌, ◌≤◌, true, false, List, Option}
 use Rattle.ct_base.specs.Head.{HasHead}
-use Rattle.ct_base.specs.Inode.{IsIn}
+use Rattle.ct_base.specs.Inode.{IsIn, inode}
 use Rattle.ct_base.specs.Rules.{Owns, Sound, part_of}
 use Rattle.ct_base.specs.Settled.{IsShut}
 use Rattle.ct_base.specs.View.{view, inode_count}
@@ -39,3 +39,7 @@ pub record IsMounted (words : List ℕ) (told : Option History) (frames : FreePa
 pub record AreOwned (img : List ℕ) (wants : List Want) : Type 0 where
   pub pages : (p : ℕ) → 10 * 2 ^ 27 ≤ p → is_wanted wants 4 p ≡ true → (i : ℕ) × Owns (view img) (inode_count img) i × IsIn (part_of (view img) i) (p * 4096)
   pub staging : (k : ℕ) → k < 8 → is_wanted wants 1 (2 + k) ≡ false
+
+-- no page that is wanted above the staging slots lies in the partition of a live file
+abbrev pub OffFiles : List ℕ → List Want → Type 0
+OffFiles img wants = (p : ℕ) → 10 * 2 ^ 27 ≤ p → is_wanted wants 4 p ≡ true → (i : ℕ) → Owns (view img) (inode_count img) i → (inode (view img) i).kind ≡ 1 → IsIn (part_of (view img) i) (p * 4096) → ⊥

@@ -1,18 +1,76 @@
--- What a new entry takes beside its slot.
-use Rattle.std.specs.Prelude.{◌≡◌, ◌≢◌, ℕ, ◌+◌, ◌*◌, ◌≤◌, ◌%◌, ◌^◌, nat_lt, if◌then◌else◌, List, [], ◌∷◌, length, Option, Some, None}
+-- What a call needs, before anything is stored: the plan as the code has it, and what must be known of it.
+use Rattle.std.specs.Prelude.{◌≡◌, ◌≢◌, ◌⊎◌, ℕ, ◌+◌, ◌*◌, ◌/◌, ◌%◌, ◌^◌, ◌<◌, ◌≤◌, nat_lt, if◌then◌else◌, true, false, List, [], ◌∷◌, ◌++◌, All, map, length, Option, Some, None}
 use Rattle.ct_base.specs.Headers.{StandFor}
 use Rattle.ct_base.specs.declared.inode.Inode.{Inode}
-use Rattle.ct_base.specs.Inode.{free_parts, live_parts}
-use Rattle.ct_base.specs.Plan.{Plan, create_plan, first_free_number, grows_to, page_want}
+use Rattle.ct_base.specs.Inode.{IsIn, IsLive, IsPart, Partition, free_parts, live_parts, part, part_bytes}
+use Rattle.ct_base.specs.Plan.{Plan, counted, create_plan, growth_wants, grows_to, next_part, page_want}
 use Rattle.ct_base.specs.Rules.{IsPlaced}
 use Rattle.ct_base.specs.View.{view, inode_count}
 use Rattle.ct_base.specs.Walk.{AreTables}
-use Rattle.ct_base.specs.Wants.{Want, missing}
+use Rattle.ct_base.specs.Wants.{Want, is_wanted, missing}
 use Rattle.ct_frames.specs.Free.{FreePages}
-use Rattle.ct_tree.specs.Need.{IsParentAt}
-use Rattle.ct_tree.specs.Step.{Op, create, mkdir}
-use Rattle.ct_fs.specs.Answers.{LacksInode, LacksPartition, LacksPages}
-use Rattle.ct_fs.specs.declared.plan.EntryPlan.{EntryPlan}
+use Rattle.ct_grow.specs.Follows.{Follows}
+use Rattle.ct_fs.specs.declared.plan.CallPlan.{CallPlan}
+use Rattle.ct_fs.specs.declared.plan.Growth.{Growth}
+use Rattle.ct_fs.specs.declared.plan.Growth.TheVariants.{Stays, To, Barred}
+
+-- ---- any plan
+
+-- the level to which the object grows
+abbrev pub level_of : Growth → Option ℕ
+level_of Stays = None
+level_of (To level) = Some level
+level_of (Barred level) = Some level
+
+-- the level's free partitions
+abbrev pub free_of : List ℕ → ℕ → List Partition
+free_of img level = free_parts (live_parts (view img) (inode_count img)) level
+
+-- a partition of the level is free exactly where the growth is not barred
+abbrev pub IsGrowth : List ℕ → Growth → Type 0
+IsGrowth img Stays = Unit {0}
+IsGrowth img (To level) = free_of img level ≢ []
+IsGrowth img (Barred level) = free_of img level ≡ []
+
+abbrev pub IsOpen : Growth → Type 0
+IsOpen Stays = Unit {0}
+IsOpen (To level) = Unit {0}
+IsOpen (Barred level) = ⊥
+
+-- the plan is this one by its definition: the same growth, and where there is a partition for that, the same need
+pub record Plans (img : List ℕ) (plan : Plan) (made : CallPlan) : Type 0 where
+  pub growth : plan.growth ≡ level_of made.growth
+  pub part : IsGrowth img made.growth
+  pub need : IsOpen made.growth → missing img made.wants ≡ missing img plan.wants
+
+-- there is a partition for the plan, and there are pages
+pub record Fits (img : List ℕ) (frames : FreePages) (plan : CallPlan) : Type 0 where
+  pub opens : IsOpen plan.growth
+  pub part : IsGrowth img plan.growth
+  pub pages : missing img plan.wants ≤ length frames.free
+
+-- the partition that object f has then
+abbrev pub part_then : List ℕ → Inode → Option ℕ → Partition
+part_then img f None = part f
+part_then img f (Some level) = next_part (view img) (inode_count img) level
+
+-- what growth asks for
+abbrev pub grown_wants : List ℕ → Inode → Option ℕ → List Want
+grown_wants img f None = []
+grown_wants img f (Some level) = growth_wants f (next_part (view img) (inode_count img) level)
+
+-- Object i, whose inode is f, may grow so or stay, and then have more: the wants count both; each page asked for lies in its
+-- partition, in the part that growth adds, and only a directory asks for pages; nothing is asked for in a staging slot.
+pub record Asks (img : List ℕ) (i : ℕ) (f : Inode) (growth : Option ℕ) (wants more : List Want) : Type 0 where
+  pub live : IsLive (view img) (inode_count img) i
+  pub grows : (level : ℕ) → growth ≡ Some level → (level ≤ 9) × ((f.level ≡ 15) ⊎ (f.level < level))
+  pub counts : missing img wants ≡ missing img (grown_wants img f growth ++ map (counted f (part_then img f growth)) more)
+  pub follows : (level : ℕ) → growth ≡ Some level → All (Follows f (next_part (view img) (inode_count img) level)) more
+  pub staging : (k : ℕ) → k < 8 → is_wanted more 1 (2 + k) ≡ false
+  pub pages : (n : ℕ) → 10 * 2 ^ 27 ≤ n → is_wanted more 4 n ≡ true → (f.kind ≡ 2) × IsPart (part_then img f growth) × IsIn (part_then img f growth) (n * 4096)
+  pub past : (level v : ℕ) → growth ≡ Some level → f.level ≤ 9 → v < part_bytes f.level → is_wanted more 4 (((next_part (view img) (inode_count img) level).base + v) / 4096) ≡ false
+
+-- ---- the plan of a new entry
 
 -- What is known of an image, of directory f and of the offset of a slot when the plan is made.
 pub record CanPlan (img : List ℕ) (f : Inode) (offset : ℕ) : Type 0 where
@@ -36,21 +94,9 @@ slot_growth f offset = if nat_lt f.size (offset + 256) then grows_to f (offset +
 abbrev pub plan_for : List ℕ → Inode → ℕ → ℕ → Plan
 plan_for img f offset number = create_plan (view img) (inode_count img) f offset number
 
--- the call makes an object in directory dir
-abbrev pub MakesIn : List ℕ → ℕ → Op → Type 0
-MakesIn img dir (create path) = IsParentAt img path dir
-MakesIn img dir (mkdir path) = IsParentAt img path dir
-MakesIn img dir op = ⊥
-
--- the call lacks nothing
-pub record HasSpace (img : List ℕ) (op : Op) : Type 0 where
-  pub inode : ¬ LacksInode img op
-  pub partition : (level : ℕ) → ¬ LacksPartition img op level
-  pub pages : (free need : ℕ) → ¬ LacksPages img op free need
-
--- the number of the new object and the growth of directory f, for which there is a partition, and enough pages are free
-pub record IsEntryPlan (img : List ℕ) (frames : FreePages) (f : Inode) (offset : ℕ) (plan : EntryPlan) : Type 0 where
-  pub number : first_free_number (view img) (inode_count img) ≡ Some plan.number
-  pub growth : (plan_for img f offset plan.number).growth ≡ plan.growth
-  pub some : (level : ℕ) → plan.growth ≡ Some level → free_parts (live_parts (view img) (inode_count img)) level ≢ []
-  pub room : missing img (plan_for img f offset plan.number).wants ≤ length frames.free
+-- the plan asks for the pages of the slot and of the inode, in the partition that the directory has then
+pub record IsEntryPlan (img : List ℕ) (f : Inode) (offset number : ℕ) (plan : CallPlan) : Type 0 where
+  pub growth : level_of plan.growth ≡ slot_growth f offset
+  pub part : IsGrowth img plan.growth
+  pub rest : IsOpen plan.growth → plan.rest ≡ entry_wants ((part_then img f (level_of plan.growth)).base + offset) number
+  pub wants : IsOpen plan.growth → plan.wants ≡ grown_wants img f (level_of plan.growth) ++ plan.rest

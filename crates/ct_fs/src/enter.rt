@@ -1,19 +1,19 @@
 // The record of a new entry.
-ghost use Rattle.std.specs.Prelude.{◌≡◌, ◌≢◌, ◌⊎◌, ℕ, ◌+◌, ◌*◌, ◌/◌, ◌<◌, ◌≤◌, [], List, OnOk, slice_index};
+ghost use Rattle.std.specs.Prelude.{◌≡◌, ◌≢◌, ◌⊎◌, ℕ, ◌+◌, ◌*◌, ◌/◌, ◌<◌, ◌≤◌, [], OnOk, slice_index};
 ghost use Rattle.ct_base.specs.Causes.{HasCause};
-ghost use Rattle.ct_base.specs.Named.{Leads};
-ghost use Rattle.ct_base.specs.Settled.{HasFewPairs, Named};
+ghost use Rattle.ct_base.specs.Settled.{Named};
 ghost use Rattle.ct_base.specs.Walk.{page_at, AreTables};
-ghost use Rattle.ct_pm.specs.Device.{LeavesOnly, MakesOnly, NothingPending, StoresOver};
-ghost use Rattle.ct_record.specs.Record.{InRecord, KeepsHead};
-ghost use Rattle.ct_record.specs.Seen.{Drafts, count_of, drafted, faults_under, pairs_of, words_under};
+ghost use Rattle.ct_frames.specs.Agrees.{Agrees};
+ghost use Rattle.ct_frames.specs.Free.{FreePages};
+ghost use Rattle.ct_pm.specs.Device.{MakesOnly, NothingPending};
+ghost use Rattle.ct_pm.specs.Phase.{Phase};
+ghost use Rattle.ct_record.specs.Record.{InRecord};
+ghost use Rattle.ct_record.specs.Seen.{Drafts, count_of, device_behind, drafted, faults_under, pairs_of, words_under};
 ghost use Rattle.ct_words.specs.Drafted.{MapsAlike};
-ghost use Rattle.ct_tree.specs.Lands.{Lands, files};
-ghost use Rattle.ct_tree.specs.Tree.{Tree};
-ghost use Rattle.ct_fs.specs.Calls.{StandsFor};
+ghost use Rattle.ct_tree.specs.Lands.{files};
+ghost use Rattle.ct_fs.specs.Landing.{EntersOrNot};
 ghost use Rattle.ct_fs.specs.Mounted.{IsAtRest};
-ghost use Rattle.ct_grow.specs.Moments.{SparesFiles};
-ghost use Rattle.ct_fs.specs.Entry.{HasEntry, KeepsPart, IsEntryWord, IsFreeInode, IsSizeWord, IsSpot, RaisesSize, SparesReplay, WritesEntry, after_enter, with_node};
+ghost use Rattle.ct_fs.specs.Entry.{HasEntry, KeepsPart, IsEntryWord, IsFreeInode, IsSizeWord, IsSpot, RaisesSize, WritesEntry};
 ghost use Rattle.ct_fs.specs.Placed.{HasSlot};
 
 use crate::spot::Spot;
@@ -21,7 +21,7 @@ use ct_base::Inode;
 use ct_dir::set;
 use ct_inode::put;
 use ct_pm::{Pm, PmFault};
-use ct_record::{Broken, Draft, Idle, complete};
+use ct_record::{Broken, Draft, Idle, conclude};
 use ct_words::put_words;
 
 /// How many bytes a slot has.
@@ -112,33 +112,23 @@ pub(crate) fn enter<D: Pm>(dev: D, spot: &Spot<'_>, number: u64, kind: u64) -> R
     requires sort { (kind ≡ 1) ⊎ (kind ≡ 2) }
 
     // After Ok the words stand for the tree with the object, and no table changed.
-    ensures entry { OnOk result (HasEntry (D.words dev) (D.words (after_enter result)) spot.now.dir spot.now.name.now kind) }
-    ensures slot { OnOk result (HasSlot (files (D.words (after_enter result)) spot.now.dir) spot.now.offset number spot.now.name.now) }
-    ensures part { OnOk result (KeepsPart (D.words dev) (D.words (after_enter result)) spot.now.dir) }
-    ensures settled { OnOk result (NothingPending (D.told (after_enter result))) }
+    ensures rest { OnOk result (IsAtRest (D.words (device_behind result))) }
+    ensures agrees { (frames : FreePages) → Agrees (D.words dev) frames → OnOk result (Agrees (D.words (device_behind result)) frames) }
+    ensures entry { OnOk result (HasEntry (D.words dev) (D.words (device_behind result)) spot.now.dir spot.now.name.now kind) }
+    ensures slot { OnOk result (HasSlot (files (D.words (device_behind result)) spot.now.dir) spot.now.offset number spot.now.name.now) }
+    ensures part { OnOk result (KeepsPart (D.words dev) (D.words (device_behind result)) spot.now.dir) }
+    ensures settled { OnOk result (NothingPending (D.told (device_behind result))) }
 
-    // A crash at any moment lands on the tree without the object, or on the one with it, and so do the words as they read.
-    ensures moments { (xs : List (List ℕ)) (t : Tree) → StandsFor (D.words dev) t → Leads (files (D.words dev)) 1 xs spot.now.dir
-        → LeavesOnly (D.told dev) (D.told (after_enter result)) (λ image. Lands image t ⊎ Lands image (with_node t xs spot.now.name.now kind)) }
-    ensures reads { (xs : List (List ℕ)) (t : Tree) → StandsFor (D.words dev) t → Leads (files (D.words dev)) 1 xs spot.now.dir
-        → Lands (D.words (after_enter result)) t ⊎ Lands (D.words (after_enter result)) (with_node t xs spot.now.name.now kind) }
-
-    // The record is lawful in it, with no more than 41 pairs, and so it is in the words as they read.
-    ensures lawful { LeavesOnly (D.told dev) (D.told (after_enter result)) (HasFewPairs 41) }
-    ensures reads_lawful { HasFewPairs 41 (D.words (after_enter result)) }
-    ensures keeps { KeepsHead (D.words dev) (D.words (after_enter result)) }
+    // A crash at any moment lands on the objects without the new one, or on those with it.
+    ensures phase { Phase (EntersOrNot (files (D.words dev)) spot.now.dir spot.now.name.now kind) 41 (D.told dev) (D.told (device_behind result)) (D.words (device_behind result)) }
 
     // Off pages 1 to 32 only words of the slot, of the inode and of the directory's size are stored to.
     ensures made { MakesOnly (λ word value. InRecord word ⊎ IsEntryWord (D.words dev) spot.now.dir spot.now.inode spot.now.offset number word)
-        (D.told dev) (D.told (after_enter result)) }
-
-    // No store changes a page of a live file, and no record that a crash may leave names a word of one.
-    ensures spares { StoresOver SparesFiles (D.told dev) (D.told (after_enter result)) }
-    ensures replays { LeavesOnly (D.told dev) (D.told (after_enter result)) SparesReplay }
-    ensures cause { HasCause (D.faults dev) (D.faults (after_enter result)) result }
+        (D.told dev) (D.told (device_behind result)) }
+    ensures cause { HasCause (D.faults dev) (D.faults (device_behind result)) result }
 {
     let mut draft = Draft::begin(Idle::of(dev));
-    match draft_entry(
+    let written = draft_entry(
         &mut draft,
         spot.dir,
         spot.inode,
@@ -146,16 +136,6 @@ pub(crate) fn enter<D: Pm>(dev: D, spot: &Spot<'_>, number: u64, kind: u64) -> R
         spot.name,
         number,
         kind,
-    ) {
-        Ok(()) => {}
-        Err(_) => {
-            return Err(Broken {
-                dev: draft.abandon(),
-            });
-        }
-    }
-    match complete(draft) {
-        Ok(idle) => Ok(idle.into_dev()),
-        Err(broken) => Err(broken),
-    }
+    );
+    conclude(draft, written)
 }

@@ -114,6 +114,7 @@ fn write_image<D: Pm>(dev: &mut D, pages: u64, inodes: u64) -> Result<(), PmFaul
     ensures others { SameOff IsFormatWord (D.words dev.new) (D.words dev.old) }
     ensures made { MakesOnly (λ at put. IsFormatWord at) (D.told dev.old) (D.told dev.new) }
     ensures moments { Formats (D.words dev.old) (D.told dev.old) (D.told dev.new) }
+    ensures reads { IsFormatImage (D.words dev.old) (D.words dev.new) }
     ensures cause { HasCause (D.faults dev.old) (D.faults dev.new) result }
 {
     put_magic(dev, 0)?;
@@ -148,6 +149,7 @@ fn make_image<D: Pm>(alloc: Global, mut dev: D, inodes: u64) -> Result<Mounted<D
     ensures others { SameOff IsFormatWord (D.words (image_dev result)) (D.words dev) }
     ensures stores { MakesOnly (λ at put. IsFormatWord at) (D.told dev) (D.told (image_dev result)) }
     ensures moments { Formats (D.words dev) (D.told dev) (D.told (image_dev result)) }
+    ensures reads { IsFormatImage (D.words dev) (D.words (image_dev result)) }
 {
     let pages = dev.pages();
     if pages < LEAST_PAGES || pages > MOST_PAGES {
@@ -204,6 +206,9 @@ pub fn format<D: Pm>(alloc: Global, dev: D, inodes: u64) -> Result<Fs<D>, NoMoun
     // Until the first fence a crash leaves what the device held, or what mount rule 1 refuses; then what it refuses; and from
     // the store of the magic on also what lands on the empty tree.
     ensures moments { Formats (D.words dev) (D.told dev) (D.told (dev_after result)) }
+
+    // So do the words as they read, at Ok and at a fault.
+    ensures reads { IsFormatImage (D.words dev) (D.words (dev_after result)) }
 {
     match make_image(alloc, dev, inodes) {
         Ok(made) => Ok(Fs::of(made)),

@@ -4,6 +4,7 @@
 //! pending; they stand for one tree, and each call answers and changes it as the plain tree does, or is refused for space.
 #![tactic(auto)]
 
+mod change;
 mod create;
 mod enter;
 mod formatting;
@@ -14,9 +15,9 @@ mod mount;
 mod pages;
 mod peek;
 mod plan;
+mod room;
+mod space;
 mod spot;
-#[cfg(test)]
-mod tests;
 
 pub use formatting::format;
 pub use mount::{Fs, FsError, NoMount, Stat, Why};

@@ -1,5 +1,5 @@
 // A mounted file system, and what its calls answer.
-ghost use Rattle.std.specs.Prelude.{◌≡◌, Some, None, IsSome, length};
+ghost use Rattle.std.specs.Prelude.{◌≡◌, Some, None, IfOk, IsSome, length};
 ghost use Rattle.ct_base.specs.Settled.{HasPages};
 ghost use Rattle.ct_fs.specs.Mounted.{IsMounted, Volume};
 
@@ -109,6 +109,26 @@ impl<D: Pm> Fs<D> {
             Some(State::Dead(failed)) => {
                 let Failed { dev } = failed;
                 dev
+            }
+            None => unreachable!(),
+        }
+    }
+}
+
+impl<D: Pm> Fs<D> {
+    /// The device at rest and its free pages, or the device alone where a call met a fault of it.
+    pub fn into_parts(self) -> Result<(D, Frames), D>
+        ensures { IfOk result (λ parts. IsMounted (D.words parts.0) (D.told parts.0) parts.1) }
+    {
+        let Fs { state } = self;
+        match state {
+            Some(State::Ready(mounted)) => {
+                let Mounted { dev, frames } = mounted;
+                Ok((dev, frames))
+            }
+            Some(State::Dead(failed)) => {
+                let Failed { dev } = failed;
+                Err(dev)
             }
             None => unreachable!(),
         }

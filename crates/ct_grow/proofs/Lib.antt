@@ -1,3 +1,4 @@
+pub mod Accounted
 pub mod Apart
 pub mod Carried
 pub mod Celled
@@ -10,9 +11,11 @@ pub mod Placed
 pub mod Placing
 pub mod Promoting
 pub mod Readied
+pub mod Recorded
 pub mod Spans
 pub mod Spared
 pub mod Stored
 pub mod Swapped
 pub mod Telling
 pub mod Wanting
+pub mod Written

@@ -2,7 +2,6 @@
 use Rattle.std.proofs.Common.{◌≡◌, ◌≢◌, ℕ, zero, suc, ◌+◌, ◌*◌, ◌/◌, ◌%◌, ◌^◌, ◌<◌, ◌≤◌, List, [], ◌∷◌, ◌++◌, sym, ap, subst, ◌∙◌, ◌⊎◌, inl, inr, arith}
 use Rattle.std.specs.Prelude.{All}
 use Rattle.std.proofs.lemmas.List.Elements.{All-head, All-tail}
-use Rattle.ct_base.specs.Exchange.{SameTables}
 use Rattle.ct_base.specs.Settled.{Pair, Named, with_pairs}
 use Rattle.ct_base.specs.Walk.{word, byte, byte_in, page_at, AreTables}
 use Rattle.ct_base.specs.Words.{place_at, pairs_to}
@@ -14,6 +13,7 @@ use Rattle.ct_swap.specs.Swap.{LeaveTables}
 use Rattle.ct_swap.proofs.Pairing.{leave_same}
 use Rattle.ct_words.specs.Drafted.{MapsAlike}
 use Rattle.ct_grow.specs.Drafted.{NamesPlace, NamePlaces}
+use Rattle.ct_swap.proofs.Goes.{SameTables}
 
 module _ {img : List ℕ} {On : ℕ → Type 0} {pairs : List Pair} (tables : AreTables img) (names : NamePlaces img On pairs) where
   -- a page of data is no table

@@ -8,6 +8,7 @@ use Rattle.ct_base.specs.Inode.{inode, Partition, IsIn, IsPart}
 use Rattle.ct_base.specs.Plan.{growth_wants}
 use Rattle.ct_base.specs.Rules.{Owns, part_of, ArePlaced, placed}
 use Rattle.ct_base.specs.Settled.{settled, IsShut}
+use Rattle.ct_base.specs.Spares.{SparesFiles, SparesReplay}
 use Rattle.ct_base.specs.View.{view, inode_count}
 use Rattle.ct_base.specs.Walk.{page_at}
 use Rattle.ct_frames.specs.Agrees.{Agrees}
@@ -25,7 +26,7 @@ use Rattle.ct_state.proofs.Shut.{shut_alike, shut_pages}
 use Rattle.ct_walk.specs.Growth.{Grown, MayGrow}
 use Rattle.ct_grow.specs.Drafted.{Moves}
 use Rattle.ct_grow.specs.Grown.{IsReady, pages_of}
-use Rattle.ct_grow.specs.Moments.{IsSpare, SettlesMoved, SparesFiles}
+use Rattle.ct_grow.specs.Moments.{IsSpare, SettlesMoved}
 use Rattle.ct_grow.proofs.Carried.{Making, made_alike, made_page, made_shut, made_whole, off_record, whole_of}
 use Rattle.ct_grow.proofs.Moved.{Grew, none_pages, page_now}
 use Rattle.ct_grow.proofs.Spans.{part_high}
@@ -108,18 +109,21 @@ module _ {w0 : List ℕ} {i : ℕ} {p : Partition} (m : Making w0 i p) where
 
   -- ---- while the object moves
 
-  pub moving_stores : {w1 : List ℕ} {mid told : Option History} {before after : FreePages} → Grown w0 w1 (growth_wants (inode (view w0) i) p) before after
-      → ((w2 : List ℕ) → Moves w1 w2 i (inode (view w0) i) p → IsShut w2 → Grew w0 w1 w2 before after i p × IsReady w2)
-      → LeavesOnly mid told (SettlesMoved w1 i (inode (view w0) i) p) → MakesOnly (λ word value. IsSpare w1 word) mid told → StoresOver SparesFiles mid told
-  moving_stores {w1} g grow images made = stores_over SparesFiles spares images made
-    where
-      spares : (image : List ℕ) (word value : ℕ) → SettlesMoved w1 i (inode (view w0) i) p image → IsSpare w1 word → SparesFiles image word value
-      spares image word value has spare file = elim has.to [
-        | inl none ↦
-            let at = file_page w1 image (made_shut m g) (made_whole m g) (made_placed g) none (word / 512) file in
-            spare at.number at.high at.is
-        | inr all ↦
-            let both = grow all.after all.moves all.shut in
-            let at = file_page all.after image all.shut (whole_of both.1) (both.1.rules placed (omega arith)) all.settles (word / 512) file in
-            spare _ (partner_high both.0 at.number at.high) (sym (page_now both.0 at.number) ∙ at.is)
-      ]
+  module _ {w1 : List ℕ} {before after : FreePages} (g : Grown w0 w1 (growth_wants (inode (view w0) i) p) before after) (grow : (w2 : List ℕ) → Moves w1 w2 i (inode (view w0) i) p → IsShut w2 → Grew w0 w1 w2 before after i p × IsReady w2) where
+    moving_spares : (image : List ℕ) (word value : ℕ) → SettlesMoved w1 i (inode (view w0) i) p image → IsSpare w1 word → SparesFiles image word value
+    moving_spares image word value has spare file = elim has.to [
+      | inl none ↦
+          let at = file_page w1 image (made_shut m g) (made_whole m g) (made_placed g) none (word / 512) file in
+          spare at.number at.high at.is
+      | inr all ↦
+          let both = grow all.after all.moves all.shut in
+          let at = file_page all.after image all.shut (whole_of both.1) (both.1.rules placed (omega arith)) all.settles (word / 512) file in
+          spare _ (partner_high both.0 at.number at.high) (sym (page_now both.0 at.number) ∙ at.is)
+    ]
+
+    pub moving_stores : {mid told : Option History} → LeavesOnly mid told (SettlesMoved w1 i (inode (view w0) i) p) → MakesOnly (λ word value. IsSpare w1 word) mid told → StoresOver SparesFiles mid told
+    moving_stores images made = stores_over SparesFiles moving_spares images made
+
+    -- and no open record names a word of one
+    pub moving_replays : (image : List ℕ) → SettlesMoved w1 i (inode (view w0) i) p image → SparesReplay image
+    moving_replays image has word named = moving_spares image word 0 has (has.names word named)

@@ -1,5 +1,5 @@
 -- What growth of an object asks of an image, and what it leaves.
-use Rattle.std.specs.Prelude.{◌≡◌, ◌≢◌, ℕ, ◌+◌, ◌-◌, ◌*◌, ◌/◌, ◌^◌, ◌<◌, ◌≤◌, ◌⊎◌, ◌==◌, true, false, if◌then◌else◌, List, [], length, Result, Ok, Err}
+use Rattle.std.specs.Prelude.{◌≡◌, ◌≢◌, ℕ, ◌+◌, ◌-◌, ◌*◌, ◌/◌, ◌^◌, ◌<◌, ◌≤◌, ◌⊎◌, ◌==◌, true, false, if◌then◌else◌, List, [], length}
 use Rattle.ct_base.specs.declared.inode.Inode.{Inode}
 use Rattle.ct_base.specs.Headers.{HeadersStand}
 use Rattle.ct_base.specs.Inode.{inode, IsLive, IsIn, Partition, part_bytes, free_parts, live_parts}
@@ -11,7 +11,6 @@ use Rattle.ct_base.specs.View.{view, inode_count}
 use Rattle.ct_base.specs.Walk.{word, byte, walk, page_at, AreTables}
 use Rattle.ct_base.specs.Wants.{is_wanted}
 use Rattle.ct_header.specs.Drafted.{IsInHeader}
-use Rattle.ct_record.specs.declared.idle.Broken.{Broken}
 
 -- The tables are well formed, no call is under way, and the rules on inodes, partitions and headers hold.
 pub record IsReady (img : List ℕ) : Type 0 where
@@ -33,11 +32,6 @@ pub record CanGrow (img : List ℕ) (i level : ℕ) : Type 0 where
 -- how many pages the partition of an inode has
 abbrev pub pages_of : Inode → ℕ
 pages_of f = if f.level == 15 then 0 else 8 ^ f.level
-
--- the device behind either answer
-abbrev pub after_growth : {D : Type 0} → Result D (Broken D) → D
-after_growth (Ok dev) = dev
-after_growth (Err broken) = broken.dev
 
 -- the address is one of the words that tell where inode i has its bytes
 abbrev pub IsPlace : ℕ → ℕ → Type 0

@@ -1,3 +1,4 @@
 pub mod Drafted
+pub mod Follows
 pub mod Grown
 pub mod Moments

@@ -2,8 +2,7 @@
 use Rattle.std.specs.Prelude.{◌≢◌, ℕ, ◌*◌, ◌/◌, ◌^◌, ◌≤◌, ◌⊎◌, List}
 use Rattle.ct_base.specs.declared.inode.Inode.{Inode}
 use Rattle.ct_base.specs.Inode.{Partition}
-use Rattle.ct_base.specs.Free.{IsFilePage}
-use Rattle.ct_base.specs.Settled.{HasFewPairs, IsShut, settled}
+use Rattle.ct_base.specs.Settled.{HasFewPairs, IsShut, Named, open_pairs}
 use Rattle.ct_base.specs.State.{SameState}
 use Rattle.ct_base.specs.Walk.{page_at}
 use Rattle.ct_record.specs.Record.{SettlesTo}
@@ -17,9 +16,15 @@ pub record AfterMove (words : List ℕ) (i : ℕ) (f : Inode) (p : Partition) (i
   pub shut : IsShut after
   pub settles : SettlesTo after image
 
--- the record is lawful and short, and the image settles to the words before the move or after it
+-- the device word lies on no page from root slot 10 on
+abbrev pub IsSpare : List ℕ → ℕ → Type 0
+IsSpare img w = (q : ℕ) → 10 * 2 ^ 27 ≤ q → page_at img 4 q ≢ w / 512
+
+-- the record is lawful and short, names no word of a page from root slot 10 on, and the image settles to the words before the move
+-- or after it
 pub record SettlesMoved (words : List ℕ) (i : ℕ) (f : Inode) (p : Partition) (image : List ℕ) : Type 0 where
   pub few : HasFewPairs 150 image
+  pub names : (w : ℕ) → Named (open_pairs image) w → IsSpare words w
   pub to : SettlesTo words image ⊎ AfterMove words i f p image
 
 -- the image settles to a state in which the object has grown
@@ -29,15 +34,6 @@ pub record HasGrown (words : List ℕ) (i : ℕ) (p : Partition) (image : List �
   pub ready : IsReady after
   pub state : SameState after image
 
--- the record is lawful and short, and the image settles to the state before the growth or after it
-pub record IsBeforeOrAfter (words : List ℕ) (i : ℕ) (p : Partition) (image : List ℕ) : Type 0 where
-  pub few : HasFewPairs 150 image
-  pub state : SameState words image ⊎ HasGrown words i p image
-
--- the device word lies on no page from root slot 10 on
-abbrev pub IsSpare : List ℕ → ℕ → Type 0
-IsSpare img w = (q : ℕ) → 10 * 2 ^ 27 ≤ q → page_at img 4 q ≢ w / 512
-
--- the word lies on no page of a live file of what the image settles to
-abbrev pub SparesFiles : List ℕ → ℕ → ℕ → Type 0
-SparesFiles image word value = IsFilePage (settled image) (word / 512) → ⊥
+-- the image settles to the state before the growth or after it
+abbrev pub IsBeforeOrAfter : List ℕ → ℕ → Partition → List ℕ → Type 0
+IsBeforeOrAfter words i p image = SameState words image ⊎ HasGrown words i p image

@@ -7,12 +7,14 @@ ghost use Rattle.ct_base.specs.Settled.{IsShut};
 ghost use Rattle.ct_base.specs.View.{view, inode_count};
 ghost use Rattle.ct_base.specs.Walk.{AreTables};
 ghost use Rattle.ct_frames.specs.Agrees.{Agrees};
-ghost use Rattle.ct_pm.specs.Device.{LeavesOnly, MakesOnly, NothingPending, StoresOver};
+ghost use Rattle.ct_pm.specs.Device.{LeavesOnly, MakesOnly, NothingPending};
+ghost use Rattle.ct_pm.specs.Phase.{Phase};
 ghost use Rattle.ct_grow.specs.Drafted.{CanMove, Moves};
 ghost use Rattle.ct_base.specs.State.{SameState};
 ghost use Rattle.ct_record.specs.Record.{SettlesTo};
-ghost use Rattle.ct_grow.specs.Moments.{IsBeforeOrAfter, IsSpare, SettlesMoved, SparesFiles};
-ghost use Rattle.ct_grow.specs.Grown.{CanGrow, CellsMoved, IsReady, Promoted, after_growth};
+ghost use Rattle.ct_record.specs.Seen.{device_behind};
+ghost use Rattle.ct_grow.specs.Moments.{IsBeforeOrAfter, IsSpare, SettlesMoved};
+ghost use Rattle.ct_grow.specs.Grown.{CanGrow, CellsMoved, IsReady, Promoted};
 
 use crate::draft::move_object;
 use crate::parts::first_base;
@@ -21,7 +23,7 @@ use ct_base::{Inode, Vaddr};
 use ct_frames::Frames;
 use ct_inode::get;
 use ct_pm::Pm;
-use ct_record::{Broken, Draft, Idle, complete};
+use ct_record::{Broken, Draft, Idle, conclude};
 use ct_walk::ensure_all;
 
 // Moves an object to the partition of a level at an address, by one record.
@@ -30,31 +32,21 @@ fn move_now<D: Pm>(dev: D, number: u64, old: Inode, level: u32, base: Vaddr) -> 
     requires shut { IsShut (D.words dev) }
     requires settled { NothingPending (D.told dev) }
     requires can { CanMove (D.words dev) number old (record { base = base; level = level }) }
-    ensures moves { OnOk result (Moves (D.words dev) (D.words (after_growth result)) number old (record { base = base; level = level })) }
-    ensures shut { OnOk result (IsShut (D.words (after_growth result))) }
-    ensures settled { OnOk result (NothingPending (D.told (after_growth result))) }
+    ensures moves { OnOk result (Moves (D.words dev) (D.words (device_behind result)) number old (record { base = base; level = level })) }
+    ensures shut { OnOk result (IsShut (D.words (device_behind result))) }
+    ensures settled { OnOk result (NothingPending (D.told (device_behind result))) }
 
     // A crash at any moment leaves a lawful record of at most 150 pairs, and settles to the words before the move or after it.
-    ensures any_moment { LeavesOnly (D.told dev) (D.told (after_growth result)) (SettlesMoved (D.words dev) number old (record { base = base; level = level })) }
-    ensures reads { SettlesMoved (D.words dev) number old (record { base = base; level = level }) (D.words (after_growth result)) }
-    ensures reads_after { OnOk result (LeavesOnly (D.told dev) (D.told (after_growth result))
-        (λ image. SettlesTo (D.words dev) image ⊎ SettlesTo (D.words (after_growth result)) image)) }
-    ensures made { MakesOnly (λ word value. IsSpare (D.words dev) word) (D.told dev) (D.told (after_growth result)) }
-    ensures cause { HasCause (D.faults dev) (D.faults (after_growth result)) result }
+    ensures any_moment { LeavesOnly (D.told dev) (D.told (device_behind result)) (SettlesMoved (D.words dev) number old (record { base = base; level = level })) }
+    ensures reads { SettlesMoved (D.words dev) number old (record { base = base; level = level }) (D.words (device_behind result)) }
+    ensures reads_after { OnOk result (LeavesOnly (D.told dev) (D.told (device_behind result))
+        (λ image. SettlesTo (D.words dev) image ⊎ SettlesTo (D.words (device_behind result)) image)) }
+    ensures made { MakesOnly (λ word value. IsSpare (D.words dev) word) (D.told dev) (D.told (device_behind result)) }
+    ensures cause { HasCause (D.faults dev) (D.faults (device_behind result)) result }
 {
     let mut draft = Draft::begin(Idle::of(dev));
-    match move_object(&mut draft, number, old, level, base) {
-        Ok(()) => {}
-        Err(_) => {
-            return Err(Broken {
-                dev: draft.abandon(),
-            });
-        }
-    }
-    match complete(draft) {
-        Ok(idle) => Ok(idle.into_dev()),
-        Err(broken) => Err(broken),
-    }
+    let drafted = move_object(&mut draft, number, old, level, base);
+    conclude(draft, drafted)
 }
 
 /// Moves object `inode` to the lowest free partition of a level: no byte is copied, and at most 150 words are exchanged or
@@ -69,24 +61,21 @@ pub fn promote<D: Pm>(dev: D, frames: &mut Frames, inode: u64, level: u32) -> Re
     requires settled { NothingPending (D.told dev) }
     requires room { growth_need (D.words dev) (inode_at (view (D.words dev)) inode) level ≤ length frames.old.free }
 
-    ensures promoted { OnOk result (Promoted (D.words dev) (D.words (after_growth result)) inode (next_part (view (D.words dev)) (inode_count (D.words dev)) level)) }
-    ensures cells { OnOk result (CellsMoved (D.words dev) (D.words (after_growth result)) (inode_at (view (D.words dev)) inode) (next_part (view (D.words dev)) (inode_count (D.words dev)) level)) }
-    ensures ready { OnOk result (IsReady (D.words (after_growth result))) }
-    ensures agrees { OnOk result (Agrees (D.words (after_growth result)) frames.new) }
-    ensures settled { OnOk result (NothingPending (D.told (after_growth result))) }
+    ensures promoted { OnOk result (Promoted (D.words dev) (D.words (device_behind result)) inode (next_part (view (D.words dev)) (inode_count (D.words dev)) level)) }
+    ensures cells { OnOk result (CellsMoved (D.words dev) (D.words (device_behind result)) (inode_at (view (D.words dev)) inode) (next_part (view (D.words dev)) (inode_count (D.words dev)) level)) }
+    ensures ready { OnOk result (IsReady (D.words (device_behind result))) }
+    ensures agrees { OnOk result (Agrees (D.words (device_behind result)) frames.new) }
+    ensures settled { OnOk result (NothingPending (D.told (device_behind result))) }
 
-    // A crash at any moment leaves a lawful record of at most 150 pairs, and settles to the state before the growth or after it,
-    // and so do the words as they read; once the growth is done, the state after it is theirs.
-    ensures any_moment { LeavesOnly (D.told dev) (D.told (after_growth result)) (IsBeforeOrAfter (D.words dev) inode (next_part (view (D.words dev)) (inode_count (D.words dev)) level)) }
-    ensures reads { IsBeforeOrAfter (D.words dev) inode (next_part (view (D.words dev)) (inode_count (D.words dev)) level) (D.words (after_growth result)) }
-    ensures reads_after { OnOk result (LeavesOnly (D.told dev) (D.told (after_growth result))
-        (λ image. SameState (D.words dev) image ⊎ SameState (D.words (after_growth result)) image)) }
-
-    // No step stores on a page of a live file of what the words settle to that read before it.
-    ensures stores { StoresOver SparesFiles (D.told dev) (D.told (after_growth result)) }
+    // A crash at any moment settles to the state before the growth or after it, leaves a lawful record of at most 150 pairs, none
+    // of which names a word of a live file's page, and no step stores on such a page; and once the growth is done, the state after
+    // it is that of the words as they read.
+    ensures phase { Phase (IsBeforeOrAfter (D.words dev) inode (next_part (view (D.words dev)) (inode_count (D.words dev)) level)) 150 (D.told dev) (D.told (device_behind result)) (D.words (device_behind result)) }
+    ensures reads_after { OnOk result (LeavesOnly (D.told dev) (D.told (device_behind result))
+        (λ image. SameState (D.words dev) image ⊎ SameState (D.words (device_behind result)) image)) }
 
     ensures taken { OnOk result (length frames.new.free + growth_need (D.words dev) (inode_at (view (D.words dev)) inode) level ≡ length frames.old.free) }
-    ensures cause { HasCause (D.faults dev) (D.faults (after_growth result)) result }
+    ensures cause { HasCause (D.faults dev) (D.faults (device_behind result)) result }
 {
     let old = get(&dev, inode);
     let base = first_base(&dev, level);
@@ -96,8 +85,5 @@ pub fn promote<D: Pm>(dev: D, frames: &mut Frames, inode: u64, level: u32) -> Re
         Ok(()) => {}
         Err(_) => return Err(Broken { dev }),
     }
-    match move_now(dev, inode, old, level, base) {
-        Ok(dev) => Ok(dev),
-        Err(broken) => Err(broken),
-    }
+    move_now(dev, inode, old, level, base)
 }

@@ -12,10 +12,10 @@ use std::marker::Model;
 /// The level of an inode that has no partition.
 pub const NO_PART: u64 = 15;
 
-/// At most twelve wants, seen as their list.
+/// At most sixteen wants, seen as their list: growth has twelve at most, and what comes after it four.
 #[derive(Drop)]
 pub struct Wants {
-    wants: [Want; 12],
+    wants: [Want; 16],
     count: usize,
 }
 
@@ -27,23 +27,23 @@ impl Model for Wants {
 
     ghost view = { λ w. take w.count w.wants };
 
-    ghost invariant = { λ w. w.count ≤ 12 };
+    ghost invariant = { λ w. w.count ≤ 16 };
 }
 
 impl Wants {
-    // No wants yet.
-    fn new() -> Wants
+    /// No wants yet.
+    pub fn new() -> Wants
         ensures { result ≡ [] }
     {
         Wants {
-            wants: [want_at(4, 0); 12],
+            wants: [want_at(4, 0); 16],
             count: 0,
         }
     }
 
-    // One want more.
-    fn push(&mut self, want: Want)
-        requires { length self.old < 12 }
+    /// One want more.
+    pub fn push(&mut self, want: Want)
+        requires { length self.old < 16 }
         ensures { self.new ≡ self.old ++ want ∷ [] }
     {
         self.wants[self.count] = want;
@@ -88,7 +88,8 @@ fn header_pages(level: u32, base: Vaddr) -> Wants
 pub fn growth_wants(old: Inode, level: u32, base: Vaddr) -> Wants
     requires new { IsPart (record { base = base; level = level }) }
     requires old { old.level ≢ 15 → IsPart (part old) }
-    ensures { result ≡ wants_of old (record { base = base; level = level }) }
+    ensures wants { result ≡ wants_of old (record { base = base; level = level }) }
+    ensures few { length result ≤ 12 }
 {
     let mut wants = header_pages(level, base);
     if old.level == NO_PART {

@@ -6,7 +6,7 @@ use Rattle.std.proofs.lemmas.List.Elements.{All-nil, All-cons}
 use Rattle.ct_base.specs.Headers.{is_one, AreDisjoint, StandFor, without}
 use Rattle.ct_base.specs.Inode.{Partition, number_of, nth, is_free}
 use Rattle.ct_base.specs.Published.{words_above, header_words}
-use Rattle.ct_base.specs.Ranges.{header_at, Headers, Changes, IsPartition, OnWay}
+use Rattle.ct_base.specs.Ranges.{header_at, Headers, Changes, IsPartition}
 use Rattle.ct_base.specs.Settled.{Pair}
 use Rattle.ct_base.specs.View.{is_seen, view}
 use Rattle.ct_base.specs.Walk.{page_at}
@@ -21,6 +21,7 @@ use Rattle.ct_words.specs.Shown.{shown_word}
 use Rattle.ct_record.proofs.Under.{under_beside}
 use Rattle.ct_words.proofs.Shown.{byte-shown}
 use Rattle.ct_header.proofs.Shown.{view_headers, headers_view}
+use Rattle.ct_parts.proofs.Path.{OnWay}
 
 -- ---- addresses
 

@@ -7,8 +7,6 @@
 mod draft;
 mod free;
 mod read;
-#[cfg(test)]
-mod tests;
 
 pub use draft::put;
 pub use free::first_free;

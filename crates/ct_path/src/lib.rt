@@ -5,8 +5,6 @@
 #![tactic(auto)]
 
 mod fault;
-#[cfg(test)]
-mod tests;
 mod text;
 mod way;
 

@@ -1,5 +1,5 @@
 use Rattle.std.proofs.Common.{get_or}
-use Rattle.ct_dir.proofs.Texts.{little-eight}
+use Rattle.ct_state.proofs.Bytes.{little-eight}
 use Rattle.ct_dir.proofs.names.word_of.Goals as goal
 
 pub returns : goal.returns

@@ -1,29 +1,45 @@
-use Rattle.std.proofs.Common.{ℕ, ◌∙◌, ◌⊎◌, inl, sym, subst, arith}
-use Rattle.ct_base.specs.Named.{Leads}
-use Rattle.ct_base.specs.Objects.{Object}
-use Rattle.ct_pm.proofs.Told.{and_then, weaker}
-use Rattle.ct_tree.specs.Lands.{Lands}
-use Rattle.ct_fs.proofs.Entered.{entry_agrees}
-use Rattle.ct_fs.proofs.Making.{same_stands}
+use Rattle.std.proofs.Common.{◌∙◌, inl, sym, subst, arith}
+use Rattle.ct_fs.proofs.Landed.{entry_phase, lands_pages, no_entry_phase}
 use Rattle.ct_fs.proofs.Placing.{moved_on}
-use Rattle.ct_fs.specs.Entry.{with_node}
+use Rattle.ct_fs.specs.Entry.{IsSpot}
+use Rattle.ct_fs.proofs.EntryRoom.{asks, here_next, here_plan, inode_there, number_few, spot_there}
 use Rattle.ct_fs.proofs.create.carry_out.Goals as goal
 
+pub room-requires-clause-asks : goal.room-requires-clause-asks
+room-requires-clause-asks g c = asks c.requires.rest (here_next c.requires.next) (number_few c.requires.rest c.requires.first) (here_plan c.requires.next c.requires.plan) c.requires.fits.opens
+
+pub enter-requires-clause-spot : goal.enter-requires-clause-spot
+enter-requires-clause-spot g c =
+    subst (λ i. IsSpot (g.D.Pm.words c.in-Ok.dev) c.args.spot.now.dir i c.args.spot.now.offset c.args.spot.now.name.now) (sym c.get.ensures)
+    (spot_there c.requires.rest (here_next c.requires.next) (number_few c.requires.rest c.requires.first) (here_plan c.requires.next c.requires.plan) c.requires.fits.opens c.in-Ok.ensures.room c.args.spot.now.name.now c.requires.fresh)
+
+pub enter-requires-clause-unused : goal.enter-requires-clause-unused
+enter-requires-clause-unused g c =
+    inode_there c.requires.rest (here_next c.requires.next) (number_few c.requires.rest c.requires.first) (here_plan c.requires.next c.requires.plan) c.requires.fits.opens c.in-Ok.ensures.room c.requires.first
+
+pub returns-in-Err-clause-phase : goal.returns-in-Err-clause-phase
+returns-in-Err-clause-phase g c = no_entry_phase c.in-Err.ensures.phase
+
+pub returns-in-Ok-enter-clause-phase : goal.returns-in-Ok-enter-clause-phase
+returns-in-Ok-enter-clause-phase g c = entry_phase (g.D.Pm.words c.args.dev) (g.D.Pm.words c.in-Ok.dev) c.in-Ok.ensures.room.files c.in-Ok.ensures.phase c.in-Ok-enter.ensures.phase
+
+pub returns-in-Err-enter-clause-phase : goal.returns-in-Err-enter-clause-phase
+returns-in-Err-enter-clause-phase g c = entry_phase (g.D.Pm.words c.args.dev) (g.D.Pm.words c.in-Ok.dev) c.in-Ok.ensures.room.files c.in-Ok.ensures.phase c.in-Err-enter.ensures.phase
+
 pub returns-in-Ok-enter-clause-agrees : goal.returns-in-Ok-enter-clause-agrees
-returns-in-Ok-enter-clause-agrees g c = entry_agrees c.in-Ok-enter.ensures.entry.keeps c.in-Ok.ensures.agrees
-
-pub returns-in-Ok-enter-clause-moments : goal.returns-in-Ok-enter-clause-moments
-returns-in-Ok-enter-clause-moments g c xs t st leads =
-    and_then (weaker (λ image. Lands image t ⊎ Lands image (with_node t xs c.args.spot.now.name.now c.args.kind)) (λ image lands. inl lands) (c.in-Ok.ensures.moments t st))
-    (c.in-Ok-enter.ensures.moments xs t (same_stands c.in-Ok.ensures.files st) (subst (λ (fs : ℕ → Object). Leads fs 1 xs c.args.spot.now.dir) (sym c.in-Ok.ensures.files) leads))
-
-pub returns-in-Err-enter-clause-moments : goal.returns-in-Err-enter-clause-moments
-returns-in-Err-enter-clause-moments g c xs t st leads =
-    and_then (weaker (λ image. Lands image t ⊎ Lands image (with_node t xs c.args.spot.now.name.now c.args.kind)) (λ image lands. inl lands) (c.in-Ok.ensures.moments t st))
-    (c.in-Err-enter.ensures.moments xs t (same_stands c.in-Ok.ensures.files st) (subst (λ (fs : ℕ → Object). Leads fs 1 xs c.args.spot.now.dir) (sym c.in-Ok.ensures.files) leads))
+returns-in-Ok-enter-clause-agrees g c = c.in-Ok-enter.ensures.agrees c.room.new.frames c.in-Ok.ensures.agrees
 
 pub returns-in-Ok-enter-clause-counted : goal.returns-in-Ok-enter-clause-counted
-returns-in-Ok-enter-clause-counted g c = c.in-Ok-enter.ensures.entry.keeps.head 3 (omega arith) ∙ c.in-Ok.ensures.counted
+returns-in-Ok-enter-clause-counted g c = c.in-Ok-enter.ensures.entry.keeps.head 3 (omega arith) ∙ c.in-Ok.ensures.room.counted
 
 pub returns-in-Ok-enter-clause-moved : goal.returns-in-Ok-enter-clause-moved
-returns-in-Ok-enter-clause-moved g c level goes = moved_on (c.in-Ok.ensures.moved level goes) c.in-Ok-enter.ensures.entry.keeps c.in-Ok-enter.ensures.part
+returns-in-Ok-enter-clause-moved g c level goes = moved_on (c.in-Ok.ensures.room.moved level goes) c.in-Ok-enter.ensures.entry.keeps c.in-Ok-enter.ensures.part
+
+pub returns-in-Err-clause-pages : goal.returns-in-Err-clause-pages
+returns-in-Err-clause-pages g c = lands_pages {dir = c.args.spot.now.dir} {name = c.args.spot.now.name.now} {kind = c.args.kind} (g.D.Pm.words c.in-Err.broken.dev) (inl c.in-Err.ensures.phase.reads.has)
+
+pub returns-in-Ok-enter-clause-pages : goal.returns-in-Ok-enter-clause-pages
+returns-in-Ok-enter-clause-pages g c = lands_pages (g.D.Pm.words c.in-Ok-enter.dev) c.in-Ok-enter.ensures.phase.reads.has
+
+pub returns-in-Err-enter-clause-pages : goal.returns-in-Err-enter-clause-pages
+returns-in-Err-enter-clause-pages g c = lands_pages (g.D.Pm.words c.in-Err-enter.broken.dev) c.in-Err-enter.ensures.phase.reads.has

@@ -1,6 +1,6 @@
-use Rattle.std.proofs.Common.{◌≡◌, ◌⊎◌, inl, refl, subst, arith}
-use Rattle.ct_pm.specs.Device.{LeavesOnly}
-use Rattle.ct_pm.proofs.Told.{started}
+use Rattle.std.proofs.Common.{◌≡◌, ◌⊎◌, ℕ, List, Ok, Err, inl, refl, subst, arith}
+use Rattle.ct_pm.specs.Phase.{Crash}
+use Rattle.ct_pm.proofs.Phases.{phase_here}
 use Rattle.ct_record.proofs.Moments.{each_settled}
 use Rattle.ct_tree.specs.Checks.{names}
 use Rattle.ct_tree.specs.Lands.{Lands}
@@ -8,12 +8,15 @@ use Rattle.ct_tree.specs.Resolve.{parent}
 use Rattle.ct_fs.specs.Calls.{StandsFor, after}
 use Rattle.ct_fs.specs.Entry.{with_node}
 use Rattle.ct_fs.specs.Makes.{make_op}
-use Rattle.ct_fs.proofs.Named.{after_make, does_over, makes_in}
+use Rattle.ct_fs.proofs.Landed.{call_phase, shut_crash}
+use Rattle.ct_fs.proofs.Named.{after_make, does_over}
 use Rattle.ct_fs.proofs.Placing.{places}
 use Rattle.ct_fs.proofs.Vacant.{free_once}
 use Rattle.ct_fs.specs.Placed.{Places}
 use Rattle.ct_fs.proofs.Resting.{mounted_rest, rest_lands}
-use Rattle.ct_fs.proofs.Spaces.{told_refused, told_started}
+use Rattle.ct_fs.proofs.Spaces.{is_told, not_refused}
+use Rattle.ct_fs.proofs.Planned.{spends}
+use Rattle.ct_fs.specs.declared.mount.FsError.TheVariants.{Refused}
 use Rattle.ct_fs.proofs.create.make_in.Goals as goal
 
 pub returns-in-Err-clause-does : goal.returns-in-Err-clause-does
@@ -21,16 +24,15 @@ returns-in-Err-clause-does g c t = does_over t (make_op c.args.kind c.args.path.
     let dev = c.mounted.inside.dev in
     let op = make_op c.args.kind c.args.path.now in
     let rest = mounted_rest c.mounted.invariant in
-    let lands = rest_lands rest st in
+    let Q : List ℕ → Type 0 = λ image. Lands image t ⊎ Lands image (after t op) in
+    let here : Crash Q 5111 (g.D.Pm.words dev) = shut_crash (g.D.Pm.words dev) rest.shut (inl (rest_lands rest st)) in
     record {
       answer = c.in-Err.ensures.answer c.args.kind t st;
-      told = told_refused rest st c.args.kind c.args.path.now c.in-Err.refusal (c.in-Err.ensures.answer c.args.kind t st);
+      told = is_told rest st op (spends c.args.kind c.args.path.now) {T = ℕ} (Err (Refused c.in-Err.refusal)) (c.in-Err.ensures.answer c.args.kind t st);
+      succeeds = λ can quiet. absurd (not_refused can c.in-Err.refusal (c.in-Err.ensures.answer c.args.kind t st));
       leaves = refl;
       later = omega arith;
-      moments =
-          started (g.D.Pm.told dev) (λ image. Lands image t ⊎ Lands image (after t op))
-          (each_settled (g.D.Pm.told dev) (g.D.Pm.words dev) (λ image. Lands image t ⊎ Lands image (after t op)) (g.met.D.Pm.replays dev) c.mounted.invariant.settled (inl lands));
-      reads = inl lands;
+      phase = phase_here (g.D.Pm.told dev) Q (each_settled (g.D.Pm.told dev) (g.D.Pm.words dev) (Crash Q 5111) (g.met.D.Pm.replays dev) c.mounted.invariant.settled here) here;
     })
 
 pub returns-in-Ok-carry_out-clause-does : goal.returns-in-Ok-carry_out-clause-does
@@ -44,7 +46,8 @@ returns-in-Ok-carry_out-clause-does g c t = does_over t (make_op c.args.kind c.a
     after_make c.args.kind t path can.allowed spot.last spot.lawful c.number.ensures in
     record {
       answer = can;
-      told = told_started rest st c.args.kind path can;
+      told = is_told rest st (make_op c.args.kind path) (spends c.args.kind path) {T = ℕ} (Ok 0) can;
+      succeeds = λ can quiet. refl;
       leaves = record {
         rest = c.in-Ok-carry_out.ensures.rest;
         stands = subst (λ u. StandsFor words u) is (c.in-Ok-carry_out.ensures.node (parent (names path)) t st spot.parent);
@@ -52,10 +55,7 @@ returns-in-Ok-carry_out-clause-does g c t = does_over t (make_op c.args.kind c.a
         counted = c.in-Ok-carry_out.ensures.counted;
       };
       later = c.in-Ok-carry_out.ensures.cause.later;
-      moments =
-          subst (λ u. LeavesOnly (g.D.Pm.told c.mounted.inside.dev) (g.D.Pm.told c.in-Ok-carry_out.dev) (λ image. Lands image t ⊎ Lands image u)) is
-          (c.in-Ok-carry_out.ensures.moments (parent (names path)) t st spot.parent);
-      reads = subst (λ u. Lands words t ⊎ Lands words u) is (c.in-Ok-carry_out.ensures.reads (parent (names path)) t st spot.parent);
+      phase = call_phase t (after t (make_op c.args.kind path)) (parent (names path)) st spot.parent is c.in-Ok-carry_out.ensures.phase;
     })
 
 pub returns-in-Err-carry_out-clause-does : goal.returns-in-Err-carry_out-clause-does
@@ -70,12 +70,10 @@ returns-in-Err-carry_out-clause-does g c t = does_over t (make_op c.args.kind c.
     record {
       answer = can;
       told = tt;
+      succeeds = λ can quiet. absurd (quiet c.in-Err-carry_out.ensures.cause.failed);
       later = c.in-Err-carry_out.ensures.cause.later;
       leaves = (refl, c.in-Err-carry_out.ensures.cause.failed);
-      moments =
-          subst (λ u. LeavesOnly (g.D.Pm.told c.mounted.inside.dev) (g.D.Pm.told c.in-Err-carry_out.broken.dev) (λ image. Lands image t ⊎ Lands image u)) is
-          (c.in-Err-carry_out.ensures.moments (parent (names path)) t st spot.parent);
-      reads = subst (λ u. Lands words t ⊎ Lands words u) is (c.in-Err-carry_out.ensures.reads (parent (names path)) t st spot.parent);
+      phase = call_phase t (after t (make_op c.args.kind path)) (parent (names path)) st spot.parent is c.in-Err-carry_out.ensures.phase;
     })
 
 pub returns-in-Ok-carry_out-clause-places : goal.returns-in-Ok-carry_out-clause-places
@@ -87,6 +85,6 @@ returns-in-Ok-carry_out-clause-places g c =
     let op = make_op c.args.kind path in
     let rest = mounted_rest c.mounted.invariant in
     let counted = free_once new c.in-Ok-carry_out.ensures.rest.unstaged c.in-Ok-carry_out.ensures.agrees c.free.ensures.rising c.free.ensures.in_range in
-    subst (λ m. Places (g.D.Pm.words m.dev) new op path) c.mounted.view_is
-    (places new c.carry_out.new.frames rest spot.next c.in-Ok.ensures.plan op path (makes_in c.args.kind old path c.in-Ok.found.0.dir spot.parent) spot.parent c.in-Ok.found.0.name.now spot.last
+    subst (λ m. Places (g.D.Pm.words m.dev) new op) c.mounted.view_is
+    (places new c.carry_out.new.frames rest spot.next c.in-Ok.ensures.first c.in-Ok.ensures.plan c.in-Ok.ensures.fits c.args.kind path spot.parent c.in-Ok.found.0.name.now spot.last
     c.in-Ok-carry_out.ensures.slot c.in-Ok-carry_out.ensures.moved c.in-Ok.ensures.counted counted c.in-Ok-carry_out.ensures.taken)

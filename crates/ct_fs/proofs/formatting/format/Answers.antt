@@ -18,3 +18,6 @@ returns-in-Err-clause-any_moment g c =
 
 pub returns-in-Ok-clause-keeps : goal.returns-in-Ok-clause-keeps
 returns-in-Ok-clause-keeps g c = new_keeps c.of.result c.in-Ok.made c.of.ensures c.in-Ok.ensures.made c.in-Ok.ensures.settled
+
+pub returns-in-Ok-clause-reads : goal.returns-in-Ok-clause-reads
+returns-in-Ok-clause-reads g c = subst (λ dev. IsFormatImage (g.D.Pm.words c.args.dev) (g.D.Pm.words dev)) (sym (ready_dev c.of.result c.in-Ok.made c.of.ensures)) c.in-Ok.ensures.reads

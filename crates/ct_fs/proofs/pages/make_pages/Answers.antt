@@ -1,145 +1,21 @@
-use Rattle.ct_fs.proofs.Paged.{paged_cells, paged_taken, paged_rest, paged_alike, paged_moments, paged_first, paged_second}
+use Rattle.ct_pm.specs.Device.{NothingPending}
+use Rattle.ct_record.proofs.Ended.{ok_then}
+use Rattle.ct_fs.proofs.Neutral.{grown_alike, grown_rests}
+use Rattle.ct_fs.proofs.Paged.{paged_phase}
 use Rattle.ct_fs.proofs.pages.make_pages.Goals as goal
 
-pub returns-in_err-ensure_all-clause-rest : goal.returns-in_err-ensure_all-clause-rest
-returns-in_err-ensure_all-clause-rest g c =
-    paged_rest (record {
-      one = c.page_want.result;
-      two = c.page_want-2.result;
-      is_first = c.page_want.ensures;
-      is_second = c.page_want-2.ensures;
-      rest = c.requires.rest;
-      settled = c.requires.settled;
-      owned = c.requires.owned;
-      extends = c.ensure_all.ensures.extends;
-    })
-
-pub returns-in_err-ensure_all-clause-alike : goal.returns-in_err-ensure_all-clause-alike
-returns-in_err-ensure_all-clause-alike g c =
-    paged_alike (record {
-      one = c.page_want.result;
-      two = c.page_want-2.result;
-      is_first = c.page_want.ensures;
-      is_second = c.page_want-2.ensures;
-      rest = c.requires.rest;
-      settled = c.requires.settled;
-      owned = c.requires.owned;
-      extends = c.ensure_all.ensures.extends;
-    })
-
-pub returns-in_err-ensure_all-clause-moments : goal.returns-in_err-ensure_all-clause-moments
-returns-in_err-ensure_all-clause-moments g c =
-    paged_moments (record {
-      one = c.page_want.result;
-      two = c.page_want-2.result;
-      is_first = c.page_want.ensures;
-      is_second = c.page_want-2.ensures;
-      rest = c.requires.rest;
-      settled = c.requires.settled;
-      owned = c.requires.owned;
-      extends = c.ensure_all.ensures.extends;
-    })
-
-pub returns-clause-first : goal.returns-clause-first
-returns-clause-first g c =
-    paged_first (record {
-      one = c.page_want.result;
-      two = c.page_want-2.result;
-      is_first = c.page_want.ensures;
-      is_second = c.page_want-2.ensures;
-      rest = c.requires.rest;
-      settled = c.requires.settled;
-      owned = c.requires.owned;
-      extends = c.ensure_all.ensures.extends;
-    }) c.in_ok-ensure_all.ensures.there
-
-pub returns-clause-second : goal.returns-clause-second
-returns-clause-second g c =
-    paged_second (record {
-      one = c.page_want.result;
-      two = c.page_want-2.result;
-      is_first = c.page_want.ensures;
-      is_second = c.page_want-2.ensures;
-      rest = c.requires.rest;
-      settled = c.requires.settled;
-      owned = c.requires.owned;
-      extends = c.ensure_all.ensures.extends;
-    }) c.in_ok-ensure_all.ensures.there
+pub returns-clause-cells : goal.returns-clause-cells
+returns-clause-cells g c = c.ensure_all.ensures.extends.grown.cells
 
 pub returns-clause-rest : goal.returns-clause-rest
-returns-clause-rest g c =
-    paged_rest (record {
-      one = c.page_want.result;
-      two = c.page_want-2.result;
-      is_first = c.page_want.ensures;
-      is_second = c.page_want-2.ensures;
-      rest = c.requires.rest;
-      settled = c.requires.settled;
-      owned = c.requires.owned;
-      extends = c.ensure_all.ensures.extends;
-    })
+returns-clause-rest g c = grown_rests c.requires.rest c.ensure_all.ensures.extends.grown c.requires.owned
 
 pub returns-clause-alike : goal.returns-clause-alike
-returns-clause-alike g c =
-    paged_alike (record {
-      one = c.page_want.result;
-      two = c.page_want-2.result;
-      is_first = c.page_want.ensures;
-      is_second = c.page_want-2.ensures;
-      rest = c.requires.rest;
-      settled = c.requires.settled;
-      owned = c.requires.owned;
-      extends = c.ensure_all.ensures.extends;
-    })
+returns-clause-alike g c = grown_alike c.requires.rest c.ensure_all.ensures.extends.grown c.requires.owned
 
-pub returns-clause-moments : goal.returns-clause-moments
-returns-clause-moments g c =
-    paged_moments (record {
-      one = c.page_want.result;
-      two = c.page_want-2.result;
-      is_first = c.page_want.ensures;
-      is_second = c.page_want-2.ensures;
-      rest = c.requires.rest;
-      settled = c.requires.settled;
-      owned = c.requires.owned;
-      extends = c.ensure_all.ensures.extends;
-    })
+pub returns-clause-phase : goal.returns-clause-phase
+returns-clause-phase g c = paged_phase c.requires.rest c.requires.owned c.requires.off c.requires.agrees c.requires.settled c.ensure_all.ensures.extends
 
-pub returns-in_err-ensure_all-clause-cells : goal.returns-in_err-ensure_all-clause-cells
-returns-in_err-ensure_all-clause-cells g c =
-    paged_cells (record {
-      one = c.page_want.result;
-      two = c.page_want-2.result;
-      is_first = c.page_want.ensures;
-      is_second = c.page_want-2.ensures;
-      rest = c.requires.rest;
-      settled = c.requires.settled;
-      owned = c.requires.owned;
-      extends = c.ensure_all.ensures.extends;
-    })
-
-pub returns-clause-cells : goal.returns-clause-cells
-returns-clause-cells g c =
-    paged_cells (record {
-      one = c.page_want.result;
-      two = c.page_want-2.result;
-      is_first = c.page_want.ensures;
-      is_second = c.page_want-2.ensures;
-      rest = c.requires.rest;
-      settled = c.requires.settled;
-      owned = c.requires.owned;
-      extends = c.ensure_all.ensures.extends;
-    })
-
-pub returns-clause-taken : goal.returns-clause-taken
-returns-clause-taken g c =
-    paged_taken (record {
-      one = c.page_want.result;
-      two = c.page_want-2.result;
-      is_first = c.page_want.ensures;
-      is_second = c.page_want-2.ensures;
-      rest = c.requires.rest;
-      settled = c.requires.settled;
-      owned = c.requires.owned;
-      extends = c.ensure_all.ensures.extends;
-    }) c.in_ok-ensure_all.ensures.taken
+pub returns-clause-settled : goal.returns-clause-settled
+returns-clause-settled g c =
+    ok_then (NothingPending (g.D.Pm.told c.args.dev.now) → NothingPending (g.D.Pm.told c.ensure_all.new.dev)) c.ensure_all.result (λ keeps. keeps c.requires.settled) c.ensure_all.ensures.settled

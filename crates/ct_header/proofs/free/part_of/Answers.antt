@@ -12,8 +12,11 @@ unreachable-requires c =
     let base = c.args.number * c.length_of.result in
     let is = c.in-Some.ensures.value in
     elim (c.in-None-at.ensures.none.0 refl) [
-      | inl off ↦ off (ap (λ k. k % part_bytes c.args.level) is ∙ ap (λ k. base % k) (sym c.length_of.ensures.value) ∙ b.2)
-      | inr low ↦ omega (arith, b.0, low, is)
+      | inl high ↦ omega (arith, c.requires.level, high)
+      | inr more ↦ elim more [
+        | inl off ↦ off (ap (λ k. k % part_bytes c.args.level) is ∙ ap (λ k. base % k) (sym c.length_of.ensures.value) ∙ b.2)
+        | inr low ↦ omega (arith, b.0, low, is)
+      ]
     ]
 
 pub unreachable-requires-in-None : goal.unreachable-requires-in-None

@@ -1,6 +1,5 @@
 use Rattle.std.proofs.Common.{◌≡◌, ℕ, ◌+◌, ◌-◌, ◌≤◌}
 use Rattle.ct_base.specs.Inode.{nth}
-use Rattle.ct_base.specs.Ranges.{OnWay}
 use Rattle.ct_base.specs.Walk.{page_at}
 use Rattle.ct_record.specs.Seen.{Drafts, count_of, faults_under, pairs_of, words_under}
 use Rattle.ct_header.specs.Drafted.{AddsPairs, NamesHeader}
@@ -8,6 +7,7 @@ use Rattle.ct_words.specs.Drafted.{MapsAlike}
 use Rattle.ct_record.specs.Seen.{drafted}
 use Rattle.ct_words.specs.Shown.{shown_word}
 use Rattle.ct_header.proofs.path.set_path.Given as goal
+use Rattle.ct_parts.proofs.Path.{OnWay}
 
 abbrev pub invariant-loop-at : goal.invariant-loop-at
 invariant-loop-at g l = record {

@@ -1,12 +1,12 @@
 -- How a run ends whose device was not made a file system.
-use Rattle.std.proofs.Common.{◌≡◌, ◌⊎◌, ℕ, Some, refl, inl, ap, ◌∙◌}
+use Rattle.std.proofs.Common.{◌≡◌, ◌⊎◌, ℕ, Some, refl, inl, ap, subst, ◌∙◌}
 use Rattle.std.specs.Prelude.{◌↔◌}
 use Rattle.ct_fs.specs.Made.{IsMissized}
 use Rattle.ct_fs.specs.declared.mount.Why.{Why}
 use Rattle.ct_fs.specs.declared.mount.Why.TheVariants.{Damage, Fault, Memory}
-use Rattle.ct_shell.specs.Ends.{status_of}
+use Rattle.ct_shell.specs.Ends.{IsServed, status_of}
 use Rattle.ct_shell.specs.declared.top.Status.{Status}
-use Rattle.ct_shell.specs.declared.top.Status.TheVariants.{NotImage, NoMemory}
+use Rattle.ct_shell.specs.declared.top.Status.TheVariants.{DeviceFault, NotImage, NoMemory}
 
 pub not_image : (why : Why) (status : Status) (rule pages : ℕ) → status ≡ status_of why → status ≡ NotImage rule → ((r : ℕ) → (Some why ≡ Some (Damage r)) ↔ ((r ≡ 0) × IsMissized pages)) → (rule ≡ 0) × IsMissized pages
 not_image (Damage r) status rule pages of is size =
@@ -21,3 +21,9 @@ not_missized why status pages of missized size =
     let is : Some why ≡ Some (Damage 0) = (size 0).1 (refl, missized) in
     let same : why ≡ Damage 0 = cc in
     inl (of ∙ ap status_of same)
+
+-- a file system that was to be served was not made because the device failed
+pub not_made : (why : Why) (status : Status) → status ≡ status_of why → IsServed status → status ≡ DeviceFault
+not_made (Damage r) status is served = absurd (subst IsServed is served)
+not_made Fault status is served = is
+not_made Memory status is served = absurd (subst IsServed is served)

@@ -1,7 +1,20 @@
--- The ways in which a run may end.
-use Rattle.std.specs.Prelude.{ℕ}
+-- The ways in which a run may end, and what it leaves.
+use Rattle.std.specs.Prelude.{◌≡◌, ◌⊎◌, ℕ, ◌<◌, ◌≤◌, List, [], length, map}
+use Rattle.std.specs.Io.KnownBytes.{Consumes, IsAtEnd}
+use Rattle.std.specs.declared.option.Option.{Option}
+use Rattle.ct_base.specs.Causes.{Rose}
+use Rattle.ct_base.specs.Format.{IsFormatted}
+use Rattle.ct_fs.specs.Calls.{Holds}
+use Rattle.ct_fs.specs.Formatting.{Formats, IsFormatImage, IsFormatWord}
 use Rattle.ct_fs.specs.declared.mount.Why.{Why}
 use Rattle.ct_fs.specs.declared.mount.Why.TheVariants.{Damage, Fault, Memory}
+use Rattle.ct_pm.specs.Device.{SameOff}
+use Rattle.ct_script.specs.Script.{items, whole}
+use Rattle.ct_tree.specs.Tree.{Dir, Tree, none}
+use Rattle.ct_shell.specs.Moments.{Begins, Moment}
+use Rattle.ct_shell.specs.Script.{built}
+use Rattle.ct_shell.specs.Served.{Served, Stopped, StoppedBy, mem_inodes}
+use Rattle.ct_shell.specs.declared.call.ServeEnd.TheVariants.{Device, Output}
 use Rattle.ct_shell.specs.declared.top.Status.{Status}
 use Rattle.ct_shell.specs.declared.top.Status.TheVariants.{Done, Usage, NotImage, DeviceFault, ReadFault, WriteFault, NoMemory, TooLong}
 
@@ -26,7 +39,7 @@ IsDoneOrNoMemory (NotImage rule) = ⊥
 IsDoneOrNoMemory DeviceFault = ⊥
 IsDoneOrNoMemory WriteFault = ⊥
 
--- a file system was there, over which the script was to be served
+-- a file system was to be made, and a script served over it
 abbrev pub IsServed : Status → Type 0
 IsServed Done = Unit {0}
 IsServed DeviceFault = Unit {0}
@@ -36,6 +49,78 @@ IsServed TooLong = Unit {0}
 IsServed Usage = ⊥
 IsServed (NotImage rule) = ⊥
 IsServed NoMemory = ⊥
+
+-- nothing was begun
+abbrev pub IsUnbegun : Status → Type 0
+IsUnbegun status = IsServed status → ⊥
+
+-- no item was served
+abbrev pub IsUnserved : Status → Type 0
+IsUnserved Done = ⊥
+IsUnserved DeviceFault = ⊥
+IsUnserved WriteFault = ⊥
+IsUnserved ReadFault = Unit {0}
+IsUnserved TooLong = Unit {0}
+IsUnserved Usage = Unit {0}
+IsUnserved (NotImage rule) = Unit {0}
+IsUnserved NoMemory = Unit {0}
+
+-- the input was read to its end, and gave no more bytes than a script may have
+abbrev pub IsReadWhole : List ℕ → Option (List ℕ) → Type 0
+IsReadWhole given rest = IsAtEnd rest × (length given ≤ 16777216)
+
+-- no item was served of those whose lines were ended: nothing was written, and no step was made
+pub record Waits (c : ℕ) (t : Tree) (given : List ℕ) (old new : Option (List ℕ)) (from to : Moment) : Type 0 where
+  pub stopped : Stopped c t (map built (whole given)) old new from to
+  pub unwritten : new ≡ old
+  pub still : to ≡ from
+
+-- what is left, by the status
+abbrev pub Leaves : ℕ → Tree → Status → List ℕ → Option (List ℕ) → Option (List ℕ) → Option (List ℕ) → Moment → Moment → Type 0
+Leaves c t Done given rest old new from to =
+    IsReadWhole given rest × ((left : Tree) × Holds c left to.words to.told × Served c t left (map built (items given)) [] old new from to)
+Leaves c t DeviceFault given rest old new from to = IsReadWhole given rest × StoppedBy Device c t (map built (items given)) old new from to
+Leaves c t WriteFault given rest old new from to = IsReadWhole given rest × StoppedBy Output c t (map built (items given)) old new from to
+Leaves c t ReadFault given rest old new from to = (length given ≤ 16777216) × Waits c t given old new from to
+Leaves c t TooLong given rest old new from to = (16777216 < length given) × Waits c t given old new from to
+Leaves c t Usage given rest old new from to = ⊥
+Leaves c t (NotImage rule) given rest old new from to = ⊥
+Leaves c t NoMemory given rest old new from to = ⊥
+
+-- A script was served over a file system that held tree t, from one moment to another. Where the source tells its bytes, those
+-- that it gave are the front of what it had.
+pub record Ends (c : ℕ) (t : Tree) (status : Status) (rest rest' old new : Option (List ℕ)) (from to : Moment) : Type 0 where
+  pub given : List ℕ
+  pub gave : Consumes rest rest' given
+  pub leaves : Leaves c t status given rest' old new from to
+
+-- The device failed while the file system was made: a crash leaves what a format does, and so do the words as they read; nothing
+-- was read or written.
+pub record Unmade {S O : Type 0} (status : Status) (input input' : S) (out out' : O) (from to : Moment) : Type 0 where
+  pub failed : status ≡ DeviceFault
+  pub unread : input' ≡ input
+  pub unwritten : out' ≡ out
+  pub moments : Formats from.words from.told to.told
+  pub reads : IsFormatImage from.words to.words
+
+-- A format ended: until then a crash leaves what a format does, and the words are those of the image of an empty tree, of all
+-- pages of the device; those that a format does not store are as they were.
+pub record IsMade (pages : ℕ) (from begin : Moment) : Type 0 where
+  pub moments : Formats from.words from.told begin.told
+  pub formatted : IsFormatted begin.words pages mem_inodes
+  pub others : SameOff IsFormatWord begin.words from.words
+
+-- The file system was not made, or it was, from some moment on, and then the script was served over it.
+abbrev pub EndsMem : {S O : Type 0} → Status → ℕ → S → S → O → O → Option (List ℕ) → Option (List ℕ) → Option (List ℕ) → Option (List ℕ) → Moment → Moment → Type 0
+EndsMem status pages input input' out out' rest rest' old new from to =
+    Unmade status input input' out out' from to
+    ⊎ Begins mem_inodes (Dir none) (IsMade pages from) (λ begin. Ends mem_inodes (Dir none) status rest rest' old new begin to)
+
+-- each fault that is answered has its cause
+pub record HasCauses (status : Status) (device device' source source' sink sink' : ℕ) : Type 0 where
+  pub device_fault : status ≡ DeviceFault → Rose device device'
+  pub read_fault : status ≡ ReadFault → Rose source source'
+  pub write_fault : status ≡ WriteFault → Rose sink sink'
 
 -- how a run ends whose device was not mounted
 abbrev pub status_of : Why → Status

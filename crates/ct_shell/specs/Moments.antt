@@ -1,50 +1,81 @@
--- What a crash may leave while items are answered.
-use Rattle.std.specs.Prelude.{◌≡◌, ◌⊎◌, ℕ, List, [], ◌∷◌, Some, None}
+-- What is seen of a device at a moment, and what a crash may leave while items are answered.
+use Rattle.std.specs.Prelude.{◌≡◌, ◌⊎◌, ℕ, List, [], ◌∷◌, Some, None, IfSome}
 use Rattle.std.specs.declared.option.Option.{Option}
-use Rattle.ct_fs.specs.Formatting.{IsFormatImage}
+use Rattle.ct_fs.specs.Calls.{Holds}
 use Rattle.ct_fs.specs.declared.mount.State.{State}
 use Rattle.ct_fs.specs.declared.mount.State.TheVariants.{Ready, Dead}
-use Rattle.ct_pm.specs.Device.{EachNow, LeavesOnly}
-use Rattle.ct_pm.specs.Images.{History}
+use Rattle.ct_pm.specs.Device.{EachNow}
+use Rattle.ct_pm.specs.Images.{History, reads}
+use Rattle.ct_pm.specs.Phase.{Crash, Phase}
 use Rattle.ct_tree.specs.Lands.{Lands}
 use Rattle.ct_tree.specs.Runs.{Answers, Item, bad, call}
 use Rattle.ct_tree.specs.Step.{step}
-use Rattle.ct_tree.specs.Tree.{Dir, Tree, none}
+use Rattle.ct_tree.specs.Tree.{Tree}
 use Rattle.ct_tree.specs.declared.call.Reply.{Reply}
 use Rattle.ct_tree.specs.declared.call.Reply.TheVariants.{Done}
+use Rattle.ct_shell.specs.Binds.{Binds}
 
--- what the device of a mount tells of its history
-abbrev pub told_in : {D : Type 0} {bound : _} → Option (State D bound) → Option History
-told_in None = None
-told_in {bound = bound} (Some (Ready mounted)) = bound.told mounted.dev
-told_in {bound = bound} (Some (Dead failed)) = bound.told failed.dev
+-- a device at a moment: its history, where it tells one, and the words as they read
+pub record Moment : Type 0 where
+  pub told : Option History
+  pub words : List ℕ
 
--- until the second moment a crash leaves what lands on one tree or on the other, and then only what lands on the other
-abbrev pub Moves : Tree → Tree → Option History → Option History → Type 0
-Moves t left from to = EachNow to (λ image. Lands image left) × LeavesOnly from to (λ image. Lands image t ⊎ Lands image left)
+abbrev pub moment : Option History → List ℕ → Moment
+moment told words = record { told = told; words = words }
+
+-- the device behind a mount
+abbrev pub moment_in : {D : Type 0} {bound : _} → Option (State D bound) → Moment
+moment_in None = moment None []
+moment_in {bound = bound} (Some (Ready mounted)) = moment (bound.told mounted.dev) (bound.words mounted.dev)
+moment_in {bound = bound} (Some (Dead failed)) = moment (bound.told failed.dev) (bound.words failed.dev)
+
+-- the most pairs of a long record
+abbrev pub most_pairs : ℕ
+most_pairs = 5111
+
+-- The device holds the tree, and has c inodes; the words are those of its history. They, and whatever a crash may leave now, land
+-- on the tree, with a lawful record of few pairs of which none names a word of a live file's page.
+pub record RestsOn (c : ℕ) (t : Tree) (here : Moment) : Type 0 where
+  pub holds : Holds c t here.words here.told
+  pub replays : IfSome here.told (λ h. here.words ≡ reads h)
+  pub images : EachNow here.told (Crash (λ image. Lands image t) most_pairs)
+  pub words : Crash (λ image. Lands image t) most_pairs here.words
+
+-- From one moment to another a crash leaves what lands on one tree or on the other, with such a record; so do the words as they
+-- read in the end; and no step stores on a page of a live file.
+abbrev pub Works : Tree → Tree → Moment → Moment → Type 0
+Works t left from to = Phase (λ image. Lands image t ⊎ Lands image left) most_pairs from.told to.told to.words
 
 -- a reply other than ok was made with no step
-abbrev pub IsStill : Reply → Option History → Option History → Type 0
+abbrev pub IsStill : Reply → Moment → Moment → Type 0
 IsStill Done from to = Unit {0}
 IsStill reply from to = to ≡ from
 
--- The items may have these replies, one after another, and there is a moment for each: when it is answered a crash leaves only
--- what lands on its tree, and since the one before only that or what lands on the tree before.
-abbrev pub Passes : ℕ → Tree → List Item → List Reply → Tree → Option History → Option History → Type 0
+-- The item had the reply, which tells of the words as they read before. When it was answered, all lands on the tree that it
+-- left; meanwhile on that or on the tree before.
+pub record Passed (c : ℕ) (t : Tree) (item : Item) (reply : Reply) (left : Tree) (from to : Moment) : Type 0 where
+  pub answers : Answers c t item reply left
+  pub binds : Binds from.words t item reply
+  pub still : IsStill reply from to
+  pub works : Works t left from to
+  pub rests : RestsOn c left to
+
+-- the items had these replies, one after another, with a moment for each
+abbrev pub Passes : ℕ → Tree → List Item → List Reply → Tree → Moment → Moment → Type 0
 Passes c t [] [] t' from to = (t' ≡ t) × (to ≡ from)
-Passes c t (item ∷ items) (reply ∷ replies) t' from to =
-    (mid : Tree) × (moment : Option History) × Answers c t item reply mid × Moves t mid from moment × IsStill reply from moment × Passes c mid items replies t' moment to
+Passes c t (item ∷ items) (reply ∷ replies) t' from to = (mid : Tree) × (there : Moment) × Passed c t item reply mid from there × Passes c mid items replies t' there to
 Passes c t [] (reply ∷ replies) t' from to = ⊥
 Passes c t (item ∷ items) [] t' from to = ⊥
 
--- the first of the items is a call that was begun: a crash leaves what lands on the tree before it or on the tree after it
-abbrev pub IsBegun : Tree → List Item → Option History → Option History → Type 0
+-- the first of the items is a call that was begun
+abbrev pub IsBegun : Tree → List Item → Moment → Moment → Type 0
 IsBegun t [] from to = ⊥
 IsBegun t (bad ∷ items) from to = ⊥
-IsBegun t (call op ∷ items) from to = LeavesOnly from to (λ image. Lands image t ⊎ Lands image (step t op).1)
+IsBegun t (call op ∷ items) from to = Works t (step t op).1 from to
 
--- A file system was made on a device, and P holds from the moment on when it stood. Until then a crash leaves what the device
--- held, what is no image, or what lands on the empty tree; and then only what lands on that.
-abbrev pub FormattedThen : List ℕ → Option History → (Option History → Type 0) → Type 0
-FormattedThen words told P =
-    (formatted : Option History) × LeavesOnly told formatted (IsFormatImage words) × EachNow formatted (λ image. Lands image (Dir none)) × P formatted
+-- From some moment on a file system stood, which held the tree; and Then holds of that moment.
+pub record Begins (c : ℕ) (t : Tree) (Before Then : Moment → Type 0) : Type 0 where
+  pub begin : Moment
+  pub before : Before begin
+  pub rests : RestsOn c t begin
+  pub on : Then begin

@@ -13,11 +13,10 @@ use Rattle.ct_fs.specs.declared.mount.State.{State}
 use Rattle.ct_script.specs.Shows.{reply_of}
 use Rattle.ct_script.specs.declared.reply.Shown.{Shown}
 use Rattle.ct_script.specs.declared.reply.Shown.TheVariants.{Done, File, Dir, At, Refused}
-use Rattle.ct_tree.specs.Runs.{Answers, Item}
+use Rattle.ct_tree.specs.Runs.{Item}
 use Rattle.ct_tree.specs.Tree.{Tree}
 use Rattle.ct_tree.specs.declared.call.Refusal.TheVariants.{NotDir}
-use Rattle.ct_shell.specs.Moments.{IsBegun, IsStill, Moves, told_in}
-use Rattle.ct_shell.specs.Served.{mem_inodes}
+use Rattle.ct_shell.specs.Moments.{IsBegun, Passed, moment_in}
 
 -- a refusal has a reply; none is given where the device failed
 abbrev pub error_reply : FsError → Option Shown
@@ -47,9 +46,8 @@ entries_of (Err error) = Err error
 
 -- The reply to an item over a mount that held tree t is one that the tree may give, and the device holds the tree that the
 -- item leaves; there is none only where the device failed.
-pub record Replies {D : Type 0} {bound : _} (t : Tree) (item : Item) (before after : Option (State D bound)) (reply : Option Shown) : Type 0 where
-  pub answered : IfSome reply (λ shown. (left : Tree) × Answers mem_inodes t item (reply_of shown) left × Keeps mem_inodes after left × Moves t left (told_in before) (told_in after)
-      × IsStill (reply_of shown) (told_in before) (told_in after))
+pub record Replies {D : Type 0} {bound : _} (c : ℕ) (t : Tree) (item : Item) (before after : Option (State D bound)) (reply : Option Shown) : Type 0 where
+  pub answered : IfSome reply (λ shown. (left : Tree) × Passed c t item (reply_of shown) left (moment_in before) (moment_in after) × Keeps c after left)
   pub later : faults_in before ≤ faults_in after
   pub fault : IsNone reply → Rose (faults_in before) (faults_in after)
-  pub begun : IsNone reply → IsBegun t (item ∷ []) (told_in before) (told_in after)
+  pub begun : IsNone reply → IsBegun t (item ∷ []) (moment_in before) (moment_in after)

@@ -1,14 +1,15 @@
 // One call, and its reply.
-ghost use Rattle.std.specs.Prelude.{◌≡◌, ◌≢◌, ◌≤◌, [], ◌∷◌, Some, Err, MatchOption};
+ghost use Rattle.std.specs.Prelude.{◌≡◌, ◌≢◌, ◌≤◌, ℕ, [], ◌∷◌, Err, MatchOption, true, false};
 ghost use Rattle.ct_base.specs.Bytes.{PutAppends};
 ghost use Rattle.ct_base.specs.Causes.{Rose};
-ghost use Rattle.ct_fs.specs.Calls.{Keeps};
+ghost use Rattle.ct_fs.specs.Calls.{IsChange, Keeps};
 ghost use Rattle.ct_script.specs.Shows.{reply_of};
 ghost use Rattle.ct_script.specs.Texts.{reply_line};
+ghost use Rattle.ct_tree.specs.Runs.{call as call_item};
 ghost use Rattle.ct_tree.specs.Step.{op_of};
 ghost use Rattle.ct_tree.specs.Tree.{Tree};
-ghost use Rattle.ct_shell.specs.Script.{item_of};
-ghost use Rattle.ct_shell.specs.Served.{Serves, mem_inodes};
+ghost use Rattle.ct_shell.specs.Script.{built};
+ghost use Rattle.ct_shell.specs.Served.{Serves};
 ghost use Rattle.ct_shell.specs.Shows.{error_reply, made_reply, place_reply, stat_reply};
 
 use crate::list::list;
@@ -25,6 +26,18 @@ pub enum ServeEnd {
     Output,
 }
 
+// Whether the call changes the tree, and the file system has it.
+fn is_change(call: &Call<'_>) -> bool
+    ensures yes { result ≡ true → IsChange (op_of call.now) }
+    ensures no { result ≡ false → IsChange (op_of call.now) → ⊥ }
+{
+    match *call {
+        Call::Create { path: _ } => true,
+        Call::Mkdir { path: _ } => true,
+        _ => false,
+    }
+}
+
 /// Makes a call and writes its reply. A call that the file system does not have yet is answered as a bad line.
 pub fn serve_call<D: Pm, O: Sink>(
     fs: &mut Fs<D>,
@@ -32,14 +45,15 @@ pub fn serve_call<D: Pm, O: Sink>(
     quote: &mut Quote,
     out: &mut O,
 ) -> Result<(), ServeEnd>
-    ensures serves { (t : Tree) → Keeps mem_inodes fs.old.state t
-        → Serves t (item_of (Some (op_of call.now)) ∷ []) fs.old.state fs.new.state (O.written out.old) (O.written out.new) result }
+    ensures serves { (count : ℕ) (t : Tree) → Keeps count fs.old.state t
+        → Serves count t (built (call_item (op_of call.now)) ∷ []) fs.old.state fs.new.state (O.written out.old) (O.written out.new) result }
     ensures later { O.faults out.old ≤ O.faults out.new }
     ensures fault { result ≡ Err ServeEnd.Output → Rose (O.faults out.old) (O.faults out.new) }
 {
+    if is_change(call) {
+        return send(out, made_reply(fs.change(call)));
+    }
     match *call {
-        Call::Create { path } => send(out, made_reply(fs.create(path))),
-        Call::Mkdir { path } => send(out, made_reply(fs.mkdir(path))),
         Call::Stat { path } => send(out, stat_reply(fs.stat(path))),
         Call::Where { path } => send(out, place_reply(fs.locate(path))),
         Call::List { path } => list(fs, path, quote, out),

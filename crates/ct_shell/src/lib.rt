@@ -7,8 +7,6 @@
 mod call;
 mod list;
 mod script;
-#[cfg(test)]
-mod tests;
 mod top;
 
 pub use top::{Outcome, Status, run};

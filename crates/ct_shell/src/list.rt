@@ -15,7 +15,7 @@ ghost use Rattle.ct_tree.specs.Runs.{call as call_item};
 ghost use Rattle.ct_tree.specs.Step.{list as list_call, listed_in, refusal};
 ghost use Rattle.ct_tree.specs.Tree.{Tree};
 ghost use Rattle.ct_tree.specs.declared.call.Reply.TheVariants.{Names};
-ghost use Rattle.ct_shell.specs.Served.{Serves, mem_inodes};
+ghost use Rattle.ct_shell.specs.Served.{Serves};
 
 use crate::call::{ServeEnd, error_reply, send};
 use ct_base::{NameBuf, Sink};
@@ -31,8 +31,8 @@ pub fn list<D: Pm, O: Sink>(
     quote: &mut Quote,
     out: &mut O,
 ) -> Result<(), ServeEnd>
-    ensures serves { (t : Tree) → Keeps mem_inodes fs.now.state t
-        → Serves t (call_item (list_call path.now) ∷ []) fs.now.state fs.now.state (O.written out.old) (O.written out.new) result }
+    ensures serves { (count : ℕ) (t : Tree) → Keeps count fs.now.state t
+        → Serves count t (call_item (list_call path.now) ∷ []) fs.now.state fs.now.state (O.written out.old) (O.written out.new) result }
     ensures later { O.faults out.old ≤ O.faults out.new }
     ensures fault { result ≡ Err ServeEnd.Output → Rose (O.faults out.old) (O.faults out.new) }
 {

@@ -1,14 +1,14 @@
 // A script read whole, and served item by item.
-ghost use Rattle.std.specs.Prelude.{◌≡◌, ◌<◌, ◌≤◌, if◌then◌else◌, [], ◌∷◌, length, take, IfOk, Err};
+ghost use Rattle.std.specs.Prelude.{◌≡◌, ◌<◌, ◌≤◌, ℕ, if◌then◌else◌, [], ◌∷◌, List, length, map, take, IfOk, Err};
 ghost use Rattle.std.specs.Io.KnownBytes.{Consumes, IsAtEnd};
 ghost use Rattle.ct_base.specs.Causes.{Rose};
 ghost use Rattle.ct_fs.specs.Calls.{Keeps};
 ghost use Rattle.ct_script.specs.Grammar.{chopped};
-ghost use Rattle.ct_script.specs.Script.{items_at};
+ghost use Rattle.ct_script.specs.Script.{items, items_at, items_of};
 ghost use Rattle.ct_tree.specs.Runs.{Item};
 ghost use Rattle.ct_tree.specs.Tree.{Tree};
-ghost use Rattle.ct_shell.specs.Script.{items, items_of};
-ghost use Rattle.ct_shell.specs.Served.{Serves, mem_inodes};
+ghost use Rattle.ct_shell.specs.Script.{built};
+ghost use Rattle.ct_shell.specs.Served.{Serves};
 
 use crate::call::{ServeEnd, send, serve_call};
 use ct_base::{Sink, Source, first_part};
@@ -23,13 +23,15 @@ pub enum ReadEnd {
     TooLong,
 }
 
-/// Reads to the end of the input, which leaves a byte of the buffer free.
+/// Reads to the end of the input, which leaves a byte of the buffer free. The first fault ends it.
 pub fn read_all<S: Source>(input: &mut S, buffer: &mut [u8]) -> Result<usize, ReadEnd>
     ensures bound { IfOk result (λ n. n < length buffer.new) }
     ensures bytes { IfOk result (λ n. Consumes (S.rest input.old) (S.rest input.new) (take n buffer.new) × IsAtEnd (S.rest input.new)) }
     ensures too_long { result ≡ Err ReadEnd.TooLong → Consumes (S.rest input.old) (S.rest input.new) buffer.new }
     ensures later { S.faults input.old ≤ S.faults input.new }
     ensures fault { result ≡ Err ReadEnd.Fault → Rose (S.faults input.old) (S.faults input.new) }
+    ensures given { result ≡ Err ReadEnd.Fault
+        → (given : List ℕ) × Consumes (S.rest input.old) (S.rest input.new) given × (length given < length buffer.new) }
 {
     let mut count: usize = 0;
     while count < buffer.len() {
@@ -61,8 +63,8 @@ fn answer<D: Pm, O: Sink>(
     quote: &mut Quote,
     out: &mut O,
 ) -> Result<(), ServeEnd>
-    ensures serves { (t : Tree) → Keeps mem_inodes fs.old.state t
-        → Serves t (items_of raw.now) fs.old.state fs.new.state (O.written out.old) (O.written out.new) result }
+    ensures serves { (count : ℕ) (t : Tree) → Keeps count fs.old.state t
+        → Serves count t (map built (items_of raw.now)) fs.old.state fs.new.state (O.written out.old) (O.written out.new) result }
     ensures later { O.faults out.old ≤ O.faults out.new }
     ensures fault { result ≡ Err ServeEnd.Output → Rose (O.faults out.old) (O.faults out.new) }
 {
@@ -83,8 +85,8 @@ pub fn serve<D: Pm, O: Sink>(
     quote: &mut Quote,
     out: &mut O,
 ) -> Result<(), ServeEnd>
-    ensures serves { (t : Tree) → Keeps mem_inodes fs.old.state t
-        → Serves t (items script.now) fs.old.state fs.new.state (O.written out.old) (O.written out.new) result }
+    ensures serves { (count : ℕ) (t : Tree) → Keeps count fs.old.state t
+        → Serves count t (map built (items script.now)) fs.old.state fs.new.state (O.written out.old) (O.written out.new) result }
     ensures later { O.faults out.old ≤ O.faults out.new }
     ensures fault { result ≡ Err ServeEnd.Output → Rose (O.faults out.old) (O.faults out.new) }
 {

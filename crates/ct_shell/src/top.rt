@@ -1,17 +1,14 @@
 // The top call.
-ghost use Rattle.std.specs.Prelude.{◌≡◌, ◌≢◌, ◌⊎◌, ◌<◌, ◌≤◌, ◌↔◌, ℕ, Err, true, false, IsSomeAnd, [], map, length, string_bytes, IfSome, IfOk};
-ghost use Rattle.std.specs.Io.KnownBytes.{IsAtEnd};
+ghost use Rattle.std.specs.Prelude.{◌≡◌, ◌≢◌, ◌⊎◌, ◌<◌, ◌≤◌, ◌↔◌, ℕ, true, false, IsSomeAnd, map, length, string_bytes, IfSome, IfOk};
 ghost use Rattle.ct_base.specs.Causes.{Rose};
-ghost use Rattle.ct_fs.specs.Calls.{Holds, Keeps};
-ghost use Rattle.ct_fs.specs.Formatting.{IsFormatImage};
+ghost use Rattle.ct_fs.specs.Calls.{Keeps};
 ghost use Rattle.ct_fs.specs.Made.{IsMissized};
-ghost use Rattle.ct_fs.specs.Seen.{faults_in, fs_dev};
-ghost use Rattle.ct_pm.specs.Device.{LeavesOnly, NothingPending};
-ghost use Rattle.ct_tree.specs.Tree.{Tree, Dir, none};
-ghost use Rattle.ct_shell.specs.Ends.{IsCutShort, IsDoneOrNoMemory, IsServed, code_of, status_of};
-ghost use Rattle.ct_shell.specs.Moments.{FormattedThen, told_in};
-ghost use Rattle.ct_shell.specs.Script.{items};
-ghost use Rattle.ct_shell.specs.Served.{is_mem, Served, Stopped, mem_inodes};
+ghost use Rattle.ct_fs.specs.Seen.{faults_in};
+ghost use Rattle.ct_pm.specs.Device.{NothingPending};
+ghost use Rattle.ct_tree.specs.Tree.{Tree};
+ghost use Rattle.ct_shell.specs.Ends.{Ends, EndsMem, HasCauses, IsCutShort, IsDoneOrNoMemory, IsServed, IsUnbegun, IsUnserved, code_of, status_of};
+ghost use Rattle.ct_shell.specs.Moments.{moment, moment_in};
+ghost use Rattle.ct_shell.specs.Served.{is_mem};
 
 use crate::call::ServeEnd;
 use crate::script::{ReadEnd, read_all, serve};
@@ -123,25 +120,22 @@ impl Buffers {
     }
 }
 
-/// Serves the script of the input over a file system with an empty tree.
+//// Serves the script of the input over a file system.
 fn serve_all<D: Pm, S: Source, O: Sink>(
     fs: &mut Fs<D>,
     buffers: &mut Buffers,
     input: &mut S,
     out: &mut O,
 ) -> Status
-    requires fresh { Keeps mem_inodes fs.old.state (Dir none) }
     requires long { length buffers.old.script.items ≡ 16777217 }
-    ensures done { result ≡ Status.Done → IsAtEnd (S.rest input.new) × ((left : Tree) × Keeps mem_inodes fs.new.state left
-        × IfSome (S.rest input.old) (λ script. Served mem_inodes (Dir none) left (items script) []
-        (O.written out.old) (O.written out.new) (told_in fs.old.state) (told_in fs.new.state))) }
-    ensures stopped { result ≢ Status.Done → IfSome (S.rest input.old) (λ script. Stopped mem_inodes (Dir none) (items script)
-        (O.written out.old) (O.written out.new) (told_in fs.old.state) (told_in fs.new.state)) }
+    ensures ends { (count : ℕ) (t : Tree) → Keeps count fs.old.state t
+        → Ends count t result (S.rest input.old) (S.rest input.new) (O.written out.old) (O.written out.new)
+        (moment_in fs.old.state) (moment_in fs.new.state) }
     ensures served { IsServed result }
-    ensures later { faults_in fs.old.state ≤ faults_in fs.new.state }
-    ensures device_fault { result ≡ Status.DeviceFault → Rose (faults_in fs.old.state) (faults_in fs.new.state) }
-    ensures read_fault { result ≡ Status.ReadFault → Rose (S.faults input.old) (S.faults input.new) }
-    ensures write_fault { result ≡ Status.WriteFault → Rose (O.faults out.old) (O.faults out.new) }
+    ensures unwritten { IsUnserved result → out.new ≡ out.old }
+    ensures later { (count : ℕ) (t : Tree) → Keeps count fs.old.state t → faults_in fs.old.state ≤ faults_in fs.new.state }
+    ensures causes { (count : ℕ) (t : Tree) → Keeps count fs.old.state t
+        → HasCauses result (faults_in fs.old.state) (faults_in fs.new.state) (S.faults input.old) (S.faults input.new) (O.faults out.old) (O.faults out.new) }
     ensures too_long { result ≡ Status.TooLong → IfSome (S.rest input.old) (λ script. 16777216 < length script) }
     ensures long { IsSomeAnd (S.rest input.old) (λ script. 16777216 < length script) → IsCutShort result }
 {
@@ -174,21 +168,15 @@ fn status_of(why: Why) -> Status
 fn mem<D: Pm, S: Source, O: Sink>(alloc: Global, dev: D, input: &mut S, out: &mut O) -> Outcome<D>
     requires settled { NothingPending (D.told dev) }
     ensures usage { result.status ≢ Status.Usage }
-    ensures done { result.status ≡ Status.Done → IsAtEnd (S.rest input.new) × ((left : Tree)
-        × Holds mem_inodes left (D.words result.dev) (D.told result.dev)
-        × FormattedThen (D.words dev) (D.told dev) (λ formatted. IfSome (S.rest input.old) (λ script.
-        Served mem_inodes (Dir none) left (items script) [] (O.written out.old) (O.written out.new) formatted (D.told result.dev)))) }
-    ensures stopped { result.status ≢ Status.Done
-        → ((input.new ≡ input.old) × (out.new ≡ out.old) × LeavesOnly (D.told dev) (D.told result.dev) (IsFormatImage (D.words dev)))
-        ⊎ FormattedThen (D.words dev) (D.told dev) (λ formatted. IfSome (S.rest input.old) (λ script.
-        Stopped mem_inodes (Dir none) (items script) (O.written out.old) (O.written out.new) formatted (D.told result.dev))) }
-    ensures no_memory { result.status ≡ Status.NoMemory → (input.new ≡ input.old) × (out.new ≡ out.old) }
+    ensures ends { IsServed result.status → EndsMem result.status (D.page_count dev) input.old input.new out.old out.new
+        (S.rest input.old) (S.rest input.new) (O.written out.old) (O.written out.new)
+        (moment (D.told dev) (D.words dev)) (moment (D.told result.dev) (D.words result.dev)) }
+    ensures unbegun { IsUnbegun result.status → (result.dev ≡ dev) × (input.new ≡ input.old) × (out.new ≡ out.old) }
+    ensures unwritten { IsUnserved result.status → out.new ≡ out.old }
     ensures not_image { (rule : ℕ) → result.status ≡ Status.NotImage rule → (rule ≡ 0) × IsMissized (D.page_count dev) }
     ensures missized { IsMissized (D.page_count dev) → (result.status ≡ Status.NotImage 0) ⊎ (result.status ≡ Status.NoMemory) }
     ensures later { D.faults dev ≤ D.faults result.dev }
-    ensures device_fault { result.status ≡ Status.DeviceFault → Rose (D.faults dev) (D.faults result.dev) }
-    ensures read_fault { result.status ≡ Status.ReadFault → Rose (S.faults input.old) (S.faults input.new) }
-    ensures write_fault { result.status ≡ Status.WriteFault → Rose (O.faults out.old) (O.faults out.new) }
+    ensures causes { HasCauses result.status (D.faults dev) (D.faults result.dev) (S.faults input.old) (S.faults input.new) (O.faults out.old) (O.faults out.new) }
     ensures too_long { result.status ≡ Status.TooLong → IfSome (S.rest input.old) (λ script. 16777216 < length script) }
     ensures long { IsSomeAnd (S.rest input.old) (λ script. 16777216 < length script) → IsCutShort result.status }
 {
@@ -235,35 +223,33 @@ pub fn run<D: Pm, S: Source, O: Sink>(
 
     // The words are not the one word mem, exactly.
     ensures usage { result.status ≡ Status.Usage ↔ (is_mem (map (λ w. string_bytes w) words.now) ≡ false) }
-    ensures untouched { result.status ≡ Status.Usage → (result.dev ≡ dev) × (input.new ≡ input.old) × (out.new ≡ out.old) }
 
-    // The input was read to its end, what was written are the replies to its items, and the device holds the tree after them.
-    // From the moment on when the file system stood, a crash left only what lands on the tree after some of the items: at the
-    // moment when an item was answered on the tree after it, and since the one before on that or on the tree before.
-    ensures done { result.status ≡ Status.Done → IsAtEnd (S.rest input.new) × ((left : Tree)
-        × Holds mem_inodes left (D.words result.dev) (D.told result.dev)
-        × FormattedThen (D.words dev) (D.told dev) (λ formatted. IfSome (S.rest input.old) (λ script.
-        Served mem_inodes (Dir none) left (items script) [] (O.written out.old) (O.written out.new) formatted (D.told result.dev)))) }
+    // The words are no command, the device has another size, or memory ran out: then all is as it was.
+    ensures unbegun { IsUnbegun result.status → (result.dev ≡ dev) × (input.new ≡ input.old) × (out.new ≡ out.old) }
 
-    // Nothing was read or written, and a crash leaves what a format does; or of the replies to some of the items all were
-    // written whole, or all but the last, of which a part was. So a crash leaves what lands on the tree after the items whose
-    // replies were written, or on the one after one item more.
-    ensures stopped { result.status ≢ Status.Done
-        → ((input.new ≡ input.old) × (out.new ≡ out.old) × LeavesOnly (D.told dev) (D.told result.dev) (IsFormatImage (D.words dev)))
-        ⊎ FormattedThen (D.words dev) (D.told dev) (λ formatted. IfSome (S.rest input.old) (λ script.
-        Stopped mem_inodes (Dir none) (items script) (O.written out.old) (O.written out.new) formatted (D.told result.dev))) }
+    // Else the device failed while the file system was made, and nothing was read or written; or from some moment on it stood.
+    //
+    // Where the run is done, the input was read to its end, what was written are the replies to its items, and the device holds
+    // the tree after them. On any other status they are the replies to some of the items, the last perhaps in part.
+    //
+    // There is a moment for each item: when it is answered, a crash leaves only what lands on the tree after it, and since the
+    // one before on that or on the tree before. So in the end a crash leaves what lands on the tree after the items whose replies
+    // were written, or on the one after one item more. What reads lands so too, on every device, and the replies tell of it.
+    // No step stores on a page of a live file, nor does a record that a crash may leave.
+    ensures ends { IsServed result.status → EndsMem result.status (D.page_count dev) input.old input.new out.old out.new
+        (S.rest input.old) (S.rest input.new) (O.written out.old) (O.written out.new)
+        (moment (D.told dev) (D.words dev)) (moment (D.told result.dev) (D.words result.dev)) }
 
-    // Memory runs out before a byte is read or written.
-    ensures no_memory { result.status ≡ Status.NoMemory → (input.new ≡ input.old) × (out.new ≡ out.old) }
+    // No item was served: nothing was written.
+    ensures unwritten { IsUnserved result.status → out.new ≡ out.old }
 
     // The device has fewer than 256 or more than 262144 pages, exactly, where memory did not run out before.
     ensures not_image { (rule : ℕ) → result.status ≡ Status.NotImage rule → (rule ≡ 0) × IsMissized (D.page_count dev) }
     ensures missized { is_mem (map (λ w. string_bytes w) words.now) ≡ true → IsMissized (D.page_count dev)
         → (result.status ≡ Status.NotImage 0) ⊎ (result.status ≡ Status.NoMemory) }
 
-    ensures device_fault { result.status ≡ Status.DeviceFault → Rose (D.faults dev) (D.faults result.dev) }
-    ensures read_fault { result.status ≡ Status.ReadFault → Rose (S.faults input.old) (S.faults input.new) }
-    ensures write_fault { result.status ≡ Status.WriteFault → Rose (O.faults out.old) (O.faults out.new) }
+    // A fault is answered only where that one failed.
+    ensures causes { HasCauses result.status (D.faults dev) (D.faults result.dev) (S.faults input.old) (S.faults input.new) (O.faults out.old) (O.faults out.new) }
 
     // More than 16777216 bytes came, exactly, where nothing ended the run before.
     ensures too_long { result.status ≡ Status.TooLong → IfSome (S.rest input.old) (λ script. 16777216 < length script) }

@@ -1,0 +1,25 @@
+// The pages that no index step has met are free.
+ghost use Rattle.std.specs.Prelude.{◌≡◌, ℕ, ◌<◌, ◌≤◌, ◌↔◌, false, length, IfOk, Contains};
+ghost use Rattle.ct_check.specs.Marks.{is_marked};
+
+use crate::marks::has_mark;
+use ct_base::{NoMemory, Page};
+use ct_frames::Frames;
+use std::alloc::Global;
+
+/// The pages from 34 on that have no mark.
+pub fn unmarked(alloc: Global, pages: u64, marks: &Vec<u8>) -> Result<Frames, NoMemory>
+    requires least { 34 ≤ pages }
+    requires most { pages ≤ 262144 }
+    requires length { length marks.now.items ≡ pages }
+    ensures pages { IfOk result (λ f. f.pages ≡ pages) }
+    ensures free { IfOk result (λ f. (q : ℕ) → Contains f.free q ↔ ((34 ≤ q) × (q < pages) × (is_marked marks.now.items q ≡ false))) }
+{
+    let mut frames = Frames::new(alloc, pages)?;
+    for page in 34..pages {
+        if has_mark(marks, page) {
+            frames.mark(Page::new(page));
+        }
+    }
+    Ok(frames)
+}

@@ -1,0 +1,249 @@
+ghost use Rattle.std.proofs.Common.{arith};
+ghost use Rattle.std.specs.Prelude.{◌≡◌, ◌≢◌, ◌≤◌, ◌*◌, ◌/◌, ◌%◌, ◌<◌, ◌+◌, ◌-◌, ◌^◌, ℕ, Ok, None, true, length, IfOk, OnOk, OnErr, IsBitSet, IsTrue, ◌↔◌, bit_and, slice_index, slice_set};
+ghost use Rattle.ct_base.specs.Causes.{HasCause};
+ghost use Rattle.pm_file.specs.Lines.{with_line};
+
+use crate::attach::{AttachFault, PIECE, read_words, whole_pages};
+use crate::marks::Marks;
+use crate::writer::{Writer, zeros};
+use ct_pm::{Pm, PmFault};
+use std::alloc::Global;
+use std::fs::{Files, OpenFile, OpenOptions};
+use std::io;
+use std::os::unix::fs::FileExt;
+
+/// How many words a line has.
+const LINE_WORDS: usize = 8;
+
+/// The words of a file's whole pages in memory.
+///
+/// A store changes memory alone. A flush marks its line for the next fence, where it was stored to since it was last
+/// written. A fence writes the marked lines to the file and syncs it.
+#[derive(Drop)]
+pub struct FilePm<F> {
+    file: F,
+    words: Vec<u64>,
+    pages: u64,
+    marks: Marks,
+    writer: Writer,
+    unsynced: bool,
+    faults: u64,
+    ghost whole_pages: { length words.items ≡ 512 * pages },
+    ghost words_fit: { (word : ℕ) → slice_index words.items word < 2 ^ 64 },
+    ghost few: { pages ≤ 262144 },
+    ghost marks_size: { length marks.marked.items ≡ pages },
+}
+
+impl<F: FileExt + OpenFile + Drop> FilePm<F> {
+    ghost use Rattle.pm_file.specs.Device.{IsFresh, IsQuiet, pages_of, stored_of, marked_of, is_unsynced, faults_of};
+
+    /// Opens a file that is there for reading and writing, and reads its whole pages. A rest shorter than a page is
+    /// ignored and stays in the file. A file of over 262,144 whole pages gives a device of 0 pages.
+    ///
+    /// # Errors
+    ///
+    /// `File` where the file could not be opened, measured or read, and `NoMemory` where memory ran out.
+    pub fn attach<R: Files<File = F>>(
+        rt: &R,
+        alloc: Global,
+        name: &str,
+    ) -> Result<FilePm<F>, AttachFault>
+        ensures pages { IfOk result (λ device. pages_of device ≤ 262144) }
+        ensures fresh { IfOk result (λ device. IsFresh device) }
+    {
+        match OpenOptions::new().read(true).write(true).open(rt, name) {
+            Ok(file) => FilePm::over(alloc, file),
+            Err(_) => Err(AttachFault::File),
+        }
+    }
+
+    // The device over an open file.
+    fn over(alloc: Global, file: F) -> Result<FilePm<F>, AttachFault>
+        ensures pages { IfOk result (λ device. pages_of device ≤ 262144) }
+        ensures fresh { IfOk result (λ device. IsFresh device) }
+    {
+        let Ok(pages) = whole_pages(&file) else {
+            return Err(AttachFault::File);
+        };
+        let Ok(marks) = Marks::new(alloc, pages) else {
+            return Err(AttachFault::NoMemory);
+        };
+        let Ok(writer) = Writer::new(alloc) else {
+            return Err(AttachFault::NoMemory);
+        };
+        match words_of_file(alloc, &file, pages) {
+            Ok(words) => Ok(FilePm::of_parts(file, words, pages, marks, writer)),
+            Err(fault) => Err(fault),
+        }
+    }
+
+    // Whether a fence has nothing to write or to sync.
+    fn is_quiet(&self) -> bool
+        ensures { IsTrue result ↔ IsQuiet self.now }
+    {
+        !self.unsynced && self.marks.is_empty()
+    }
+
+    // The device over the words that were read.
+    fn of_parts(file: F, words: Vec<u64>, pages: u64, marks: Marks, writer: Writer) -> FilePm<F>
+        requires words { length words.items ≡ 512 * pages }
+        requires few { pages ≤ 262144 }
+        requires marks { length marks.marked.items ≡ pages }
+        ensures pages { pages_of result ≡ pages }
+        ensures stored { stored_of result ≡ marks.stored.items }
+        ensures marked { marked_of result ≡ marks.marked.items }
+        ensures unsynced { is_unsynced result ≡ true }
+        ensures faults { faults_of result ≡ 0 }
+    {
+        FilePm {
+            file,
+            words,
+            pages,
+            marks,
+            writer,
+            unsynced: true,
+            faults: 0,
+        }
+    }
+}
+
+// The words of so many pages from the front of the file.
+fn words_of_file<F: FileExt>(alloc: Global, file: &F, pages: u64) -> Result<Vec<u64>, AttachFault>
+    requires { pages ≤ 262144 }
+    ensures { IfOk result (λ words. length words.items ≡ 512 * pages) }
+{
+    let Ok(mut words) = vec![in alloc; 0; 512 * pages as usize] else {
+        return Err(AttachFault::NoMemory);
+    };
+    let Ok(mut buffer) = zeros(alloc, 8 * PIECE) else {
+        return Err(AttachFault::NoMemory);
+    };
+    match read_words(file, &mut buffer, &mut words) {
+        Ok(()) => Ok(words),
+        Err(_) => Err(AttachFault::File),
+    }
+}
+
+// Gathers the marked lines of a page.
+fn add_page<F: FileExt>(
+    file: &F,
+    words: &[u64],
+    page: u64,
+    mask: u64,
+    writer: &mut Writer,
+) -> io::Result<()>
+    requires few { page < 262144 }
+    requires there { 512 * page + 512 ≤ length words.now }
+{
+    for line in 0..64 {
+        if mask & (1 << line) != 0 {
+            let number = 64 * page + line;
+            let first = LINE_WORDS * number as usize;
+            writer.add(file, number, &words[first..first + LINE_WORDS])?;
+        }
+    }
+    Ok(())
+}
+
+// Writes the marked lines and syncs the file.
+fn write_back<F: FileExt + OpenFile>(
+    file: &F,
+    words: &[u64],
+    marks: &Marks,
+    writer: &mut Writer,
+) -> io::Result<()>
+    requires size { length words.now ≡ 512 * length marks.now.marked.items }
+    requires few { length marks.now.marked.items ≤ 262144 }
+{
+    for page in &marks.pages {
+        add_page(file, words, *page, marks.marked[*page as usize], writer)?;
+    }
+    writer.send(file)?;
+    file.sync_data()
+}
+
+impl<F: FileExt + OpenFile + Drop> Pm for FilePm<F> {
+    ghost use Rattle.ct_pm.specs.declared.step.Step.TheVariants.{Store, Flush, Fence};
+    ghost use Rattle.ct_pm.specs.Device.{AddsStep};
+    ghost use Rattle.pm_file.specs.Device.{words_of, faults_of, stored_of, marked_of, is_unsynced, IsQuiet};
+
+    ghost words = { λ device. device.words.items };
+
+    ghost page_count = { λ device. device.pages };
+
+    ghost faults = { λ device. device.faults };
+
+    ghost told = { λ _. None };
+
+    ghost replays = { λ _. tt };
+
+    ghost whole_pages = { λ device. device.whole_pages };
+
+    ghost words_fit = { λ device. device.words_fit };
+
+    ghost words_count = { λ device. Prim.omega (arith, device.few) };
+
+    fn pages(&self) -> u64 {
+        self.pages
+    }
+
+    fn load(&self, word: u64) -> u64 {
+        self.words[word as usize]
+    }
+
+    fn store(&mut self, word: u64, value: u64) -> Result<(), PmFault>
+        requires { word < length (words_of self.old) }
+        ensures words { words_of self.new ≡ slice_set (words_of self.old) word value }
+        ensures faults { faults_of self.new ≡ faults_of self.old }
+        ensures ok { result ≡ Ok tt }
+        ensures marked { marked_of self.new ≡ marked_of self.old }
+        ensures stored { slice_index (words_of self.old) word ≢ value → stored_of self.new ≡ with_line (stored_of self.old) (word / 8) }
+        ensures same { slice_index (words_of self.old) word ≡ value → self.new ≡ self.old }
+    {
+        let at = word as usize;
+        if self.words[at] == value {
+            return Ok(());
+        }
+        self.words[at] = value;
+        self.marks.store(word / 8);
+        Ok(())
+    }
+
+    fn flush(&mut self, line: u64) -> Result<(), PmFault>
+        requires { 8 * line < length (words_of self.old) }
+        ensures words { words_of self.new ≡ words_of self.old }
+        ensures faults { faults_of self.new ≡ faults_of self.old }
+        ensures ok { result ≡ Ok tt }
+        ensures stored { stored_of self.new ≡ stored_of self.old }
+        ensures marked { IsBitSet (slice_index (stored_of self.old) (line / 64)) (line % 64) → marked_of self.new ≡ with_line (marked_of self.old) line }
+        ensures others { ¬ IsBitSet (slice_index (stored_of self.old) (line / 64)) (line % 64) → marked_of self.new ≡ marked_of self.old }
+    {
+        self.marks.mark(line);
+        Ok(())
+    }
+
+    fn fence(&mut self) -> Result<(), PmFault>
+        ensures words { words_of self.new ≡ words_of self.old }
+        ensures step { AddsStep result Fence None None }
+        ensures cause { HasCause (faults_of self.old) (faults_of self.new) result }
+        ensures quiet { OnOk result (IsQuiet self.new) }
+        ensures stored { OnOk result ((page : ℕ) → slice_index (stored_of self.new) page ≡ bit_and (slice_index (stored_of self.old) page) (2 ^ 64 - 1 - slice_index (marked_of self.old) page)) }
+        ensures kept { OnErr result ((marked_of self.new ≡ marked_of self.old) × (stored_of self.new ≡ stored_of self.old)) }
+        ensures unsynced { OnErr result (is_unsynced self.new ≡ true) }
+        ensures count { faults_of self.new ≤ faults_of self.old + 1 }
+        ensures nothing_to_do { IsQuiet self.old → (result ≡ Ok tt) × (self.new ≡ self.old) }
+    {
+        if self.is_quiet() {
+            return Ok(());
+        }
+        self.marks.sort();
+        if write_back(&self.file, &self.words, &self.marks, &mut self.writer).is_err() {
+            self.unsynced = true;
+            self.faults = self.faults.saturating_add(1);
+            return Err(PmFault);
+        }
+        self.marks.clear();
+        self.unsynced = false;
+        Ok(())
+    }
+}

@@ -1,9 +1,11 @@
 //! The allocator on a device: pages are made for header words, and partitions are taken and released by records.
+//!
+//! All of it is compiled for tests alone, so it is proved once.
 #![tactic(auto)]
 
+#[cfg(test)]
 mod counting;
 #[cfg(test)]
 mod tests;
+#[cfg(test)]
 mod volume;
-
-pub use counting::CountingPm;

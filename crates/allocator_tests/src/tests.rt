@@ -1,6 +1,10 @@
 ghost use Rattle.std.specs.Prelude.{◌≤◌};
 
-use crate::volume::{empty, first_base, format, read, release_at, take_around, take_first};
+use crate::volume::{
+    empty, ensure_page, first_base, format, read, release_at, take_around, take_first,
+};
+use ct_base::Vaddr;
+use ct_walk::{Want, missing};
 use std::test::Fail;
 
 // Where the headers begin: root slot 1.
@@ -35,6 +39,22 @@ fn a_partition_is_taken_and_released(rt: HostRuntime) -> Result<(), Fail> {
         assert_eq!(rt; read(&dev, header_of(level)), 0);
     }
     assert_eq!(rt; read(&dev, HEADERS + (1 << 37) + 8), 0x3030);
+    Ok(())
+}
+
+// A page is made with three tables on the way to it.
+#[test]
+#[tactic(auto, using(crate::proofs::Devices::empty_tables))]
+fn a_page_and_its_tables_are_made(rt: HostRuntime) -> Result<(), Fail> {
+    let (mut dev, mut frames) = empty(rt.alloc(), 256)?;
+    let at = Vaddr::new(5_497_558_138_880).ok_or("an address")?;
+    for height in 0..4u32 {
+        let want = Want { height, at, len: 1 };
+        assert_eq!(rt; missing(&dev, &[want]), 4 - height as u64);
+    }
+    assert_eq!(rt; frames.free(), 222);
+    ensure_page(&mut dev, &mut frames, at.get())?;
+    assert_eq!(rt; frames.free(), 218);
     Ok(())
 }
 

@@ -37,7 +37,7 @@ fn part_at(level: u32, base: Vaddr) -> AnyPart
 }
 
 /// Makes the page of an address.
-fn ensure_page<D: Pm>(dev: &mut D, frames: &mut Frames, address: u64) -> Result<(), PmFault>
+pub fn ensure_page<D: Pm>(dev: &mut D, frames: &mut Frames, address: u64) -> Result<(), PmFault>
     requires tables { AreTables (D.words dev.old) }
     requires agrees { Agrees (D.words dev.old) frames.old }
     ensures pages { OnOk result (HasPages (D.words dev.old) (D.words dev.new) frames.new (λ a. a ≡ address)) }

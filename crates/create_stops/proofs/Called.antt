@@ -1,5 +1,6 @@
 -- A device that a call left.
 use Rattle.std.proofs.Common.{◌≡◌, ◌⊎◌, inl, inr, Option, Some, None, Result, IsSomeAnd, refl, sym, subst}
+use Rattle.ct_pm.specs.Phase.{Phase}
 use Rattle.ct_tree.specs.Lands.{Lands}
 use Rattle.ct_tree.specs.Step.{Op}
 use Rattle.ct_tree.specs.Tree.{Tree}
@@ -20,5 +21,5 @@ call_lands {D} {T} {bound} old new {result} {op} dev t stands does left = here (
     here None is none = absurd none
     here (Some was) is st =
         let both : Lands (bound.words dev) t ⊎ Lands (bound.words dev) (after t op) =
-        subst (λ found. IsSomeAnd found (λ dev. Lands (bound.words dev) t ⊎ Lands (bound.words dev) (after t op))) (sym left) (does was is t st).reads in
+        (subst (λ found. IsSomeAnd found (λ dev. Phase (λ image. Lands image t ⊎ Lands image (after t op)) 5111 (bound.told was.dev) (bound.told dev) (bound.words dev))) (sym left) (does was is t st).phase).reads.has in
         elim both [ inl lands ↦ (t, lands) | inr lands ↦ (after t op, lands) ]

@@ -50,30 +50,32 @@ module _ {w : List ℕ} (r : IsAtRest w) where
   owns_root : root.kind ≢ 0 → root.level ≤ 9 → Owns (view w) (inode_count w) 1
   owns_root used few = record { live = record { number = record { from = omega arith; to = omega (arith, r.head.inodes.0) }; used = used }; level = few }
 
-  room_of : root.kind ≢ 0 → root.level ≢ 15 → HasRoom root
-  room_of used has = elim (r.sound placed 1 (record { number = record { from = omega arith; to = omega (arith, r.head.inodes.0) }; used = used })).place [
+  room_of : (i : ℕ) → 1 ≤ i → i ≤ 2 → (inode (view w) i).kind ≢ 0 → (inode (view w) i).level ≢ 15 → HasRoom (inode (view w) i)
+  room_of i from to used has = elim (r.sound placed i (record { number = record { from = from; to = omega (arith, to, r.head.inodes.0) }; used = used })).place [
     | inl none ↦ absurd (has none.level)
     | inr room ↦ room
   ]
 
   root_part : root.kind ≢ 0 → root.level ≢ 15 → IsPart (part root)
-  root_part used has = (room_of used has).part
+  root_part used has = (room_of 1 (omega arith) (omega arith) used has).part
 
-  pub own_root : (f : Inode) → f ≡ root → f.kind ≢ 0 → f.level ≢ 15 → IsPart (part f)
-  own_root f is used has = subst (λ (g : Inode). IsPart (part g)) (sym is) (root_part (subst (λ (g : Inode). g.kind ≢ 0) is used) (subst (λ (g : Inode). g.level ≢ 15) is has))
+  -- the partition of the root directory, or of the inode after it
+  pub own_object : (i : ℕ) → 1 ≤ i → i ≤ 2 → (f : Inode) → f ≡ inode (view w) i → f.kind ≢ 0 → f.level ≢ 15 → IsPart (part f)
+  own_object i from to f is used has =
+      subst (λ (g : Inode). IsPart (part g)) (sym is) (room_of i from to (subst (λ (g : Inode). g.kind ≢ 0) is used) (subst (λ (g : Inode). g.level ≢ 15) is has)).part
 
-  root_grows : (level : ℕ) → root.kind ≢ 0 → level ≤ 9 → (root.level ≡ 15) ⊎ (root.level < level) → free_parts (live_parts (view w) (inode_count w)) level ≢ [] → CanGrow w 1 level
-  root_grows level used fits more some = record {
+  object_grows : (i : ℕ) → 1 ≤ i → i ≤ 2 → (level : ℕ) → (inode (view w) i).kind ≢ 0 → level ≤ 9 → ((inode (view w) i).level ≡ 15) ⊎ ((inode (view w) i).level < level) → free_parts (live_parts (view w) (inode_count w)) level ≢ [] → CanGrow w i level
+  object_grows i from to level used fits more some = record {
     ready = ready_here r;
-    live = record { number = record { from = omega arith; to = omega (arith, r.head.inodes.0) }; used = used };
+    live = record { number = record { from = from; to = omega (arith, to, r.head.inodes.0) }; used = used };
     fits = fits;
     more = more;
     some = some;
   }
 
-  pub grows : (level : ℕ) (f : Inode) → f ≡ root → f.kind ≢ 0 → level ≤ 9 → (f.level ≡ 15) ⊎ (f.level < level) → free_parts (live_parts (view w) (inode_count w)) level ≢ [] → CanGrow w 1 level
-  grows level f is used fits more some =
-      root_grows level (subst (λ (g : Inode). g.kind ≢ 0) is used) fits (subst (λ (g : Inode). (g.level ≡ 15) ⊎ (g.level < level)) is more) some
+  pub grows : (i : ℕ) → 1 ≤ i → i ≤ 2 → (level : ℕ) (f : Inode) → f ≡ inode (view w) i → f.kind ≢ 0 → level ≤ 9 → (f.level ≡ 15) ⊎ (f.level < level) → free_parts (live_parts (view w) (inode_count w)) level ≢ [] → CanGrow w i level
+  grows i from to level f is used fits more some =
+      object_grows i from to level (subst (λ (g : Inode). g.kind ≢ 0) is used) fits (subst (λ (g : Inode). (g.level ≡ 15) ⊎ (g.level < level)) is more) some
 
   -- the page at an offset in its partition may be made
   pub root_owned : (offset at : ℕ) (f : Inode) → f ≡ root → f.kind ≢ 0 → f.level ≤ 9 → offset < part_bytes f.level → at ≡ f.base + offset → AreOwned w (page_want at ∷ page_want 64 ∷ [])

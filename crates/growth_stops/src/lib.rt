@@ -6,9 +6,7 @@
 #![tactic(auto)]
 
 mod start;
-#[cfg(test)]
-mod tests;
 mod volume;
 
 pub use start::{Start, Stopping};
-pub use volume::{Growth, Resting, made};
+pub use volume::{Growth, Resting, made, with_file};

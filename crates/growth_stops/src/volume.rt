@@ -27,6 +27,9 @@ pub const PAGES: u64 = 256;
 /// The inode of the root directory, which is the object that grows.
 const ROOT: u64 = 1;
 
+/// The inode of a first file.
+const FILE: u64 = 2;
+
 /// The level of an inode that has no partition.
 const NO_PART: u64 = 15;
 
@@ -90,6 +93,23 @@ pub fn made<D: Pm + Drop>(alloc: Global, dev: D) -> Option<Resting<D>>
     }
 }
 
+/// A device with the image of a tree of one empty file, `/a`. `None` where the device is too small, failed or memory ran out.
+pub fn with_file<D: Pm + Drop>(alloc: Global, dev: D) -> Option<Resting<D>>
+    requires { NothingPending (D.told dev) }
+{
+    let Ok(mut fs) = format(alloc, dev, 2) else {
+        return None;
+    };
+    let created = fs.create(b"/a");
+    let Ok((dev, frames)) = fs.into_parts() else {
+        return None;
+    };
+    match created {
+        Ok(()) => Some(Resting { dev, frames }),
+        Err(_) => None,
+    }
+}
+
 // The want of the page at an address.
 fn page_at(at: u64) -> Option<Want>
     ensures { IfSome result (λ want. want ≡ page_want at) }
@@ -116,13 +136,15 @@ fn next_base<D: Pm>(dev: &D, level: u32) -> Option<Vaddr>
     }
 }
 
-// Whether the root directory may grow to a level, and the pages for that are free.
-fn can_grow<D: Pm>(dev: &D, frames: &Frames, level: u32) -> bool
-    requires { IsAtRest (D.words dev.now) }
-    ensures can { IsTrue result → CanGrow (D.words dev.now) 1 level }
-    ensures room { IsTrue result → growth_need (D.words dev.now) (inode_at (view (D.words dev.now)) 1) level ≤ length frames.now.free }
+// Whether the root directory or the inode after it may grow to a level, and the pages for that are free.
+fn can_grow<D: Pm>(dev: &D, frames: &Frames, number: u64, level: u32) -> bool
+    requires rest { IsAtRest (D.words dev.now) }
+    requires from { 1 ≤ number }
+    requires to { number ≤ 2 }
+    ensures can { IsTrue result → CanGrow (D.words dev.now) number level }
+    ensures room { IsTrue result → growth_need (D.words dev.now) (inode_at (view (D.words dev.now)) number) level ≤ length frames.now.free }
 {
-    let inode = get(dev, ROOT);
+    let inode = get(dev, number);
     if inode.kind == 0 || level > 9 {
         return false;
     }
@@ -180,11 +202,24 @@ impl<D: Pm + Drop> Resting<D> {
 
     /// Lets the root directory grow to a level.
     pub fn grow(self, level: u32) -> Growth<D> {
+        self.grow_to(ROOT, level)
+    }
+
+    /// Lets the file that follows the root directory grow to a level.
+    pub fn grow_file(self, level: u32) -> Growth<D> {
+        self.grow_to(FILE, level)
+    }
+
+    // Lets an object grow to a level.
+    fn grow_to(self, number: u64, level: u32) -> Growth<D>
+        requires from { 1 ≤ number }
+        requires to { number ≤ 2 }
+    {
         let Resting { dev, mut frames } = self;
-        if !can_grow(&dev, &frames, level) {
+        if !can_grow(&dev, &frames, number, level) {
             return Growth::Refused;
         }
-        match promote(dev, &mut frames, ROOT, level) {
+        match promote(dev, &mut frames, number, level) {
             Ok(dev) => Growth::Done(Resting { dev, frames }),
             Err(Broken { dev }) => Growth::Stopped(dev),
         }

@@ -1,48 +1,65 @@
-//! A record of five pairs that stops after each call of its device, and what recovery makes of the images that are left.
+//! Records of one to five pairs that stop after each call of their device, and what recovery makes of the images that are
+//! left.
 //!
 //! There is no model of its own: the device is one that remembers its steps, behind a fuse.
 #![tactic(auto)]
 
 ghost use Rattle.std.specs.Prelude.{◌≡◌, ◌<◌, ◌≤◌, ◌*◌, ◌+◌, ◌^◌, IfSome, IsTrue, length, slice_index};
-ghost use Rattle.ct_base.specs.Settled.{HasPages, IsRecord, settled as settled_words};
-ghost use Rattle.ct_pm.specs.Device.{NothingPending, SameOff};
-ghost use Rattle.ct_record.specs.Record.{InRecord};
+ghost use Rattle.ct_base.specs.Settled.{HasPages, HaveTargets, IsRecord, settled as settled_words};
+ghost use Rattle.ct_pm.specs.Device.{MakesOnly, NothingPending, SameOff};
+ghost use Rattle.ct_record.specs.Record.{InRecord, StaysInLine};
+ghost use Rattle.ct_record.specs.Seen.{IsShort, count_of, told_under};
 
 use ct_pm::Pm;
 use ct_record::{Broken, Draft, Idle, complete};
-use ct_recover::settle::settle;
+use ct_recover::settle;
 
-#[cfg(test)]
-mod tests;
+mod crash;
+
+pub use crash::{IMAGES, Image, Steps, choices, steps_since};
 
 /// The least number of pages of a device that may be settled, and that of the device of the tests.
 const PAGES: u64 = 36;
 
-/// Whether the superblock tells the pages of the device, 36 to 262,144, and the open record, if any, is a long one that may be
+// Whether each of so many pairs from a word on names one that it may name.
+fn has_targets<D: Pm>(dev: &D, from: u64, count: u64, pages: u64) -> bool
+    requires inside { from + 2 * count ≤ 16896 }
+    requires pages { slice_index (D.words dev.now) 2 ≡ pages }
+    requires few { pages ≤ 262144 }
+    requires has { HasPages (D.words dev.now) }
+    ensures { IsTrue result → HaveTargets from count (D.words dev.now) }
+{
+    for i in 0..count {
+        let word = dev.load(from + 2 * i);
+        if word < 16896 || word >= 512 * pages {
+            return false;
+        }
+    }
+    true
+}
+
+/// Whether the superblock tells the pages of the device, 36 to 262,144, and the open record, if any, is one that may be
 /// applied.
 pub fn has_record<D: Pm>(dev: &D) -> bool
     ensures record { IsTrue result → HasPages (D.words dev.now) × IsRecord (D.words dev.now) }
-    ensures short { IsTrue result → slice_index (D.words dev.now) 527 ≡ 0 }
     ensures pages { IsTrue result → 36 * 512 ≤ length (D.words dev.now) }
 {
     let pages = dev.pages();
     if pages < PAGES || pages > 262_144 {
         return false;
     }
-    if dev.load(2) != pages || dev.load(527) != 0 {
+    if dev.load(2) != pages {
         return false;
     }
     let count = dev.load(512);
-    if count > 8184 {
+    let short = dev.load(527);
+    if count > 8184 || short > 3 || (count > 0 && short > 0) {
         return false;
     }
-    for i in 0..count {
-        let word = dev.load(528 + 2 * i);
-        if word < 16896 || word >= 512 * pages {
-            return false;
-        }
+    if !has_targets(dev, 528, count, pages) {
+        return false;
     }
-    true
+    has_targets(dev, 520, short, pages)
 }
 
 /// The device settled, or none where it has no record that may be, or failed.
@@ -59,19 +76,35 @@ pub fn settled<D: Pm + Drop>(dev: D) -> Option<D>
     }
 }
 
-/// Runs a record of five pairs, and tells whether all its calls passed.
-pub fn put_five<D: Pm>(dev: D) -> (D, bool)
-    requires { NothingPending (D.told dev) }
+// Adds so many pairs, or those before the first that cannot be added.
+fn add_pairs<D: Pm>(draft: &mut Draft<D>, pairs: u64)
+    requires none { count_of draft.old ≡ 0 }
+    requires few { pairs ≤ 5 }
+    ensures short { pairs ≤ 3 → IsShort draft.old → IsShort draft.new }
+    ensures in_line { pairs ≤ 3 → IsShort draft.old → MakesOnly StaysInLine (told_under draft.old) (told_under draft.new) }
 {
-    if !has_record(&dev) || dev.load(512) != 0 {
+    for i in 0..pairs {
+        match draft.add(16910 + 100 * i, 7 + i) {
+            Ok(()) => {}
+            Err(_) => return,
+        }
+    }
+}
+
+/// Runs a record of so many pairs, or of those before the first that cannot be added, and tells whether all calls from then
+/// on passed. One of up to three pairs stores no word of pages 1 to 32 but those of its line.
+pub fn put_pairs<D: Pm>(dev: D, pairs: u64) -> (D, bool)
+    requires settled { NothingPending (D.told dev) }
+    requires few { pairs ≤ 5 }
+    ensures in_line { pairs ≤ 3 → MakesOnly StaysInLine (D.told dev) (D.told result.0) }
+{
+    if !has_record(&dev) || dev.load(512) != 0 || dev.load(527) != 0 {
         return (dev, false);
     }
     let mut draft = Draft::begin(Idle::of(dev));
-    for i in 0..5 {
-        match draft.add(16910 + 100 * i, 7 + i) {
-            Ok(()) => {}
-            Err(_) => return (draft.abandon(), false),
-        }
+    add_pairs(&mut draft, pairs);
+    if draft.count() == 0 {
+        return (draft.abandon(), false);
     }
     match complete(draft) {
         Ok(idle) => (idle.into_dev(), true),

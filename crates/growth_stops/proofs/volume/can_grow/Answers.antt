@@ -1,10 +1,10 @@
 use Rattle.std.proofs.Common.{◌≡◌, ◌<◌, ◌⊎◌, inl, inr, arith}
-use Rattle.growth_stops.proofs.Growable.{grows, own_root}
+use Rattle.growth_stops.proofs.Growable.{grows, own_object}
 use Rattle.growth_stops.proofs.volume.can_grow.Goals as goal
 use Rattle.growth_stops.proofs.volume.can_grow.Goals.{else-inode-ne-NO_PART-via-then-inode-ne-NO_PART+else-inode-level, else-inode-ne-NO_PART-via-else-inode-ne-NO_PART}
 
 pub growth_wants-requires-clause-old : goal.growth_wants-requires-clause-old
-growth_wants-requires-clause-old g c = own_root c.requires c.get-inode.result c.get-inode.ensures c.if-inode-eq0.false
+growth_wants-requires-clause-old g c = own_object c.requires.rest c.args.number c.requires.from c.requires.to c.get-inode.result c.get-inode.ensures c.if-inode-eq0.false
 
 pub returns-clause-can : goal.returns-clause-can
 returns-clause-can g c holds =
@@ -12,4 +12,4 @@ returns-clause-can g c holds =
       | else-inode-ne-NO_PART-via-then-inode-ne-NO_PART+else-inode-level w ↦ inr (omega arith)
       | else-inode-ne-NO_PART-via-else-inode-ne-NO_PART w ↦ inl (omega arith)
     ] in
-    grows c.requires c.args.level c.get-inode.result c.get-inode.ensures c.if-inode-eq0.false c.if-level-gt9.false more c.in-Some.ensures.some
+    grows c.requires.rest c.args.number c.requires.from c.requires.to c.args.level c.get-inode.result c.get-inode.ensures c.if-inode-eq0.false c.if-level-gt9.false more c.in-Some.ensures.some

@@ -1,0 +1,31 @@
+ghost use Rattle.ct_base.specs.Head.{HasHead};
+
+use crate::volume::image;
+use ct_check::{CheckFault, are_zero, check, check_head};
+use ct_pm::Pm;
+use std::alloc::Global;
+
+/// The number of free pages, or the first of the rules from 8 on that fails. Root slots 2 to 9 are set in none of these images.
+fn free_pages<D: Pm>(alloc: Global, dev: &D) -> Result<u64, CheckFault>
+    requires head { HasHead (D.words dev.now) }
+{
+    if !are_zero(dev, 16898, 16906) {
+        return Err(CheckFault::Memory);
+    }
+    match check(alloc, dev) {
+        Ok(frames) => Ok(frames.free()),
+        Err(fault) => Err(fault),
+    }
+}
+
+/// The number of free pages in the image with these words set anew, or the first rule that fails.
+pub fn answer(alloc: Global, changes: &[(u64, u64)]) -> Result<u64, CheckFault> {
+    let dev = match image(alloc, changes) {
+        Some(dev) => dev,
+        None => return Err(CheckFault::Memory),
+    };
+    match check_head(&dev) {
+        Ok(()) => free_pages(alloc, &dev),
+        Err(rule) => Err(CheckFault::Damage(rule)),
+    }
+}

@@ -47,7 +47,7 @@ named_append (p ∷ ps) qs w (inl here) = inl (inl here)
 named_append (p ∷ ps) qs w (inr later) = elim (named_append ps qs w later) [ inl first ↦ inl (inr first) | inr second ↦ inr second ]
 
 -- the words of an exchange are entries
-swap_entries : (img : List ℕ) (a b : ℕ) (ps : List (ℕ × ℕ)) → All (HasTables img a b) ps → (w : ℕ) → Named (swap_pairs img a b ps) w → IsEntry img w
+pub swap_entries : (img : List ℕ) (a b : ℕ) (ps : List (ℕ × ℕ)) → All (HasTables img a b) ps → (w : ℕ) → Named (swap_pairs img a b ps) w → IsEntry img w
 swap_entries img a b [] there w named = absurd named
 swap_entries img a b (piece ∷ ps) there w named =
     let here = All-head (HasTables img a b) piece ps there in

@@ -1,3 +1,8 @@
+// Why a path leads to nothing.
+ghost use Rattle.std.specs.Prelude.{◌≡◌};
+ghost use Rattle.ct_path.specs.Resolves.{refusal_of};
+
+use ct_tree::Refusal;
 use thiserror::Error;
 
 /// Why a path leads to nothing.
@@ -14,4 +19,15 @@ pub enum PathFault {
     /// What has a further name after it is a file.
     #[error("not a directory")]
     NotDir,
+}
+
+/// The refusal of a call that a fault of its path stops.
+pub fn refusal_of(fault: PathFault) -> Refusal
+    ensures { result ≡ refusal_of fault }
+{
+    match fault {
+        PathFault::BadPath => Refusal::BadPath,
+        PathFault::NotFound => Refusal::NotFound,
+        PathFault::NotDir => Refusal::NotDir,
+    }
 }

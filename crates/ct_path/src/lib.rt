@@ -8,6 +8,6 @@ mod fault;
 mod text;
 mod way;
 
-pub use fault::PathFault;
+pub use fault::{PathFault, refusal_of};
 pub use text::{Names, parse};
 pub use way::{parent_of, resolve};

@@ -130,7 +130,7 @@ place_long words is some = record {
   targets = is.long_targets;
 }
 
-gives_named : (pairs : List Pair) (word value : ℕ) → Gives pairs word value → Named pairs word
+pub gives_named : (pairs : List Pair) (word value : ℕ) → Gives pairs word value → Named pairs word
 gives_named [] word value none = absurd none
 gives_named (pair ∷ pairs) word value (inl is) = inl is.0
 gives_named (pair ∷ pairs) word value (inr later) = inr (gives_named pairs word value later)

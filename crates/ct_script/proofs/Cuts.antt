@@ -12,7 +12,7 @@ onto_append z [] qs some = absurd (omega arith)
 onto_append z (p ∷ ps) qs some = refl
 
 -- a list with an element that ends a part
-split_joined : (p : ℕ → Bool) (xs : List ℕ) (x : ℕ) (ys : List ℕ) → p x ≡ true → slice_split p (xs ++ x ∷ ys) ≡ slice_split p xs ++ slice_split p ys
+pub split_joined : (p : ℕ → Bool) (xs : List ℕ) (x : ℕ) (ys : List ℕ) → p x ≡ true → slice_split p (xs ++ x ∷ ys) ≡ slice_split p xs ++ slice_split p ys
 split_joined p [] x ys ends = ap (λ b. cond b ([] ∷ slice_split p ys) (onto_first x (slice_split p ys))) ends
 split_joined p (z ∷ xs) x ys ends =
     ap (λ s. cond (p z) ([] ∷ s) (onto_first z s)) (split_joined p xs x ys ends) ∙ at (p z)

@@ -10,6 +10,7 @@ mod scratch;
 mod verb;
 
 pub use line::parse;
+pub use number::number_of;
 pub use quote::Quote;
 pub use reply::{Shown, put_end, put_name, put_names, put_reply};
 pub use scratch::Scratch;

@@ -139,7 +139,7 @@ fn put_bytes<O: Sink>(out: &mut O, bytes: &[u8]) -> Result<(), WriteFault>
 }
 
 /// How many bytes are turned into digits at a time.
-const PIECE: usize = 256;
+const PIECE: usize = 16_384;
 
 /// Writes the hexadecimal digits of bytes, in pieces.
 fn put_digits<O: Sink>(out: &mut O, bytes: &[u8]) -> Result<(), WriteFault>
@@ -164,7 +164,7 @@ fn put_piece<O: Sink>(out: &mut O, piece: &[u8]) -> Result<(), WriteFault>
     ensures bytes { PutAppends (O.written out.old) (O.written out.new) result (encode_lower piece.now) }
     ensures cause { HasCause (O.faults out.old) (O.faults out.new) result }
 {
-    let mut buffer = [0u8; 512];
+    let mut buffer = [0u8; 32_768];
     let digits = &mut buffer[..2 * piece.len()];
     match encode_to_slice(piece, digits) {
         Ok(()) => out.put(digits),

@@ -63,7 +63,7 @@ onto_onto (x ∷ xs) ys zs = onto_onto xs (x ∷ ys) zs
 twice : (xs : List (List ℕ)) → onto (onto xs []) [] ≡ xs
 twice xs = onto_onto xs [] [] ∙ append-nil xs
 
-leads_same : {fs : ℕ → Object} {r : ℕ} → AreTrees fs r → (d : ℕ) (xs ys : List (List ℕ)) → Leads fs 1 xs d → Leads fs 1 ys d → xs ≡ ys
+pub leads_same : {fs : ℕ → Object} {r : ℕ} → AreTrees fs r → (d : ℕ) (xs ys : List (List ℕ)) → Leads fs 1 xs d → Leads fs 1 ys d → xs ≡ ys
 unfolding Path
 leads_same {fs} f d xs ys p q =
     let same = (up_once (once_of f) 1 1 (onto xs []) (onto ys []) d f.top f.top (path_up fs (onto xs []) d (leads_path fs 1 d xs [] p refl)) (path_up fs (onto ys []) d (leads_path fs 1 d ys [] q refl))).1 in

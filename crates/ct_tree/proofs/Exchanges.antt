@@ -17,7 +17,7 @@ use Rattle.ct_tree.specs.declared.call.Refusal.{Refusal}
 use Rattle.ct_tree.specs.declared.call.Refusal.TheVariants.{BadRange, TooLong}
 use Rattle.ct_tree.proofs.Again.{resolve_put, put_put, other_stays, names_differ}
 use Rattle.ct_tree.proofs.Ordered.{resized_length}
-use Rattle.ct_tree.proofs.Walks.{file_below_root}
+use Rattle.ct_tree.proofs.Paths.{file_below_root}
 
 pub pass : (c : Option Refusal) (cs : List (Option Refusal)) → c ≡ None → first_of (c ∷ cs) ≡ first_of cs
 pass c cs h = ap (λ o. first_of (o ∷ cs)) h

@@ -1,7 +1,7 @@
 -- Runs of two lists of items, one after the other.
-use Rattle.std.proofs.Common.{◌≡◌, ◌∙◌, ℕ, List, [], ◌∷◌, ◌++◌, length, refl, sym, ap, subst}
+use Rattle.std.proofs.Common.{◌≡◌, ℕ, List, [], ◌∷◌, ◌++◌, refl, ap, subst}
 use Rattle.ct_tree.specs.Tree.{Tree}
-use Rattle.ct_tree.specs.Runs.{Item, Answers, Runs}
+use Rattle.ct_tree.specs.Runs.{Item, Runs}
 use Rattle.ct_tree.specs.declared.call.Reply.{Reply}
 
 pub runs_joined : (c : ℕ) (items more : List Item) (replies others : List Reply) (t u v : Tree) → Runs c t items replies u → Runs c u more others v → Runs c t (items ++ more) (replies ++ others) v

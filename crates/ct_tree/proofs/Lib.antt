@@ -7,8 +7,5 @@ pub mod Undone
 pub mod Exchanges
 pub mod Firsts
 pub mod Moved
-pub mod Nodes
 pub mod Ordered
-pub mod Places
-pub mod Renames
-pub mod Walks
+pub mod Paths

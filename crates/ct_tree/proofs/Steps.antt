@@ -1,20 +1,20 @@
 -- The step of a call leaves a tree, and the root a directory.
-use Rattle.std.proofs.Common.{◌≡◌, ◌≢◌, ◌∙◌, ℕ, ◌+◌, ◌≤◌, List, [], ◌∷◌, length, refl, sym, ap, subst, arith, Some, None, Option, Ok, Err, Result, Bool, true, false}
-use Rattle.std.specs.Prelude.{is_none, unwrap_or, if◌then◌else◌, replicate}
+use Rattle.std.proofs.Common.{◌≡◌, ℕ, ◌+◌, ◌≤◌, List, [], ◌∷◌, length, refl, sym, arith, Some, None, Option, Ok, Err, Result, Bool, true, false}
+use Rattle.std.specs.Prelude.{unwrap_or, if◌then◌else◌, replicate}
 use Rattle.std.specs.List.{list_all}
 use Rattle.std.specs.Str.{bytes_eq}
 use Rattle.std.proofs.lemmas.List.{length-replicate}
 use Rattle.ct_base.specs.Path.{is_name, names_of}
-use Rattle.ct_tree.specs.Tree.{Tree, File, Dir, Entries, none}
+use Rattle.ct_tree.specs.Tree.{Tree, File, Dir, none}
 use Rattle.ct_tree.specs.Ordered.{IsTree}
 use Rattle.ct_tree.specs.Resolve.{resolve, put, cut, IsDir, node_in}
 use Rattle.ct_tree.specs.Content.{bytes_in, range, resized, written}
-use Rattle.ct_tree.specs.Checks.{first_of, refuse_if, has_none, names, at, parent_at, bad_path, is_root, no_node, no_file, no_dir, is_dir, exists, has_entries, above, into_self, in_the_way, are_ranges, bad_range, overlap}
-use Rattle.ct_tree.specs.Step.{Op, create, mkdir, write, fill, append, read, truncate, unlink, rmdir, rename, exchange, stat, list, locate, refusal, effect, answered, step, with_bytes, exchanged, moved, file_limit, exchange_limit}
+use Rattle.ct_tree.specs.Checks.{first_of, refuse_if, has_none, names, at, parent_at, bad_path, is_root, no_node, no_file, no_dir, is_dir, exists, above, into_self, in_the_way, bad_range, overlap}
+use Rattle.ct_tree.specs.Step.{Op, create, mkdir, write, fill, append, read, truncate, unlink, rmdir, rename, exchange, stat, list, locate, refusal, effect, answered, step, with_bytes, exchanged, file_limit, exchange_limit}
 use Rattle.ct_tree.specs.declared.call.Reply.{Reply}
 use Rattle.ct_tree.specs.declared.call.Refusal.{Refusal}
 use Rattle.ct_tree.specs.declared.call.Refusal.TheVariants.{BadRange, Exists, IsRoot, TooBig, TooLong}
-use Rattle.ct_tree.proofs.Ordered.{AllNames, path_names, put_tree, cut_tree, node_tree, file_short, written_length, resized_length, not_above, put_dir}
+use Rattle.ct_tree.proofs.Ordered.{path_names, put_tree, cut_tree, node_tree, file_short, written_length, resized_length, not_above}
 use Rattle.ct_tree.proofs.Exchanges.{within_both, range_length}
 
 -- a tree whose root is a directory

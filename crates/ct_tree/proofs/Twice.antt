@@ -1,26 +1,22 @@
 -- A write is read back and leaves other files; two exchanges are none.
-use Rattle.std.proofs.Common.{◌≡◌, ◌≢◌, ◌∙◌, ℕ, ◌+◌, ◌<◌, ◌≤◌, List, [], ◌∷◌, length, refl, sym, ap, subst, arith, inl, inr, Some, None, Option, Ok, Err, Result, Bool, true, false, if◌then◌else◌}
-use Rattle.std.specs.Prelude.{unwrap_or, ◌⊎◌, ◌&&◌, ◌==◌, ◌%◌, not, nat_lt, nat_le}
+use Rattle.std.proofs.Common.{◌≡◌, ◌∙◌, ℕ, List, [], ◌∷◌, refl, sym, ap, subst, Some, None, Option, Ok, Err, Result, Bool, true, false}
+use Rattle.std.specs.Prelude.{unwrap_or, ◌&&◌}
 use Rattle.std.specs.List.{list_all}
 use Rattle.std.specs.Option.{ok_or}
-use Rattle.std.specs.Str.{bytes_eq}
 use Rattle.std.specs.declared.cmp.Ordering.{Ordering}
 use Rattle.std.specs.declared.cmp.Ordering.TheVariants.{Less, Equal, Greater}
 use Rattle.std.specs.Cmp.Lexicographic.{nat_list_cmp_total}
 use Rattle.std.specs.Ordering.{ordering_reverse}
-use Rattle.std.proofs.lemmas.Bool.{cases_Bool}
-use Rattle.std.proofs.lemmas.Bool.Decides.{nat_tests}
 use Rattle.std.proofs.lemmas.Cmp.{tied_itself}
 use Rattle.std.proofs.lemmas.Map.Lookups.{exact_bytes}
-use Rattle.std.proofs.lemmas.Slice.Eq.{bytes_eq-Decides}
 use Rattle.ct_base.specs.Path.{is_name}
 use Rattle.ct_tree.specs.Tree.{Tree, File, Dir, Entries, none, entry}
 use Rattle.ct_tree.specs.Entries.{by_order, name_cmp, lookup, put_entry}
 use Rattle.ct_tree.specs.Ordered.{IsBelow, IsTree, AreEntries}
-use Rattle.ct_tree.specs.Resolve.{and_then, resolve, put, under}
+use Rattle.ct_tree.specs.Resolve.{and_then, resolve, put}
 use Rattle.ct_tree.specs.declared.call.Refusal.{Refusal}
 use Rattle.ct_tree.specs.declared.call.Refusal.TheVariants.{NotFound, NotDir}
-use Rattle.ct_tree.proofs.Again.{resolve_put, put_put}
+use Rattle.ct_tree.proofs.Again.{put_put}
 use Rattle.ct_tree.proofs.Moved.{lookup_put_same, lookup_put_other}
 use Rattle.ct_tree.proofs.Ordered.{put_entries, put_tree, found_tree, below_trans}
 

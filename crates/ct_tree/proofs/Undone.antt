@@ -1,14 +1,13 @@
 -- A write is read back, and leaves other files; an exchange that is made twice leaves the tree.
-use Rattle.std.proofs.Common.{◌≡◌, ◌≢◌, ◌∙◌, ℕ, ◌+◌, ◌<◌, ◌≤◌, List, [], ◌∷◌, length, refl, sym, ap, subst, arith, inl, inr, Some, None, Option, Ok, Err, Result, Bool, true, false}
+use Rattle.std.proofs.Common.{◌≡◌, ◌≢◌, ◌∙◌, ℕ, ◌+◌, ◌≤◌, List, [], ◌∷◌, length, refl, sym, ap, subst, arith, inl, inr, None, Option, Ok, Result, Bool, true, false}
 use Rattle.std.specs.Prelude.{◌⊎◌, ◌&&◌, ◌==◌, ◌%◌, not, nat_lt, nat_le}
 use Rattle.std.specs.Str.{bytes_eq}
-use Rattle.std.proofs.lemmas.Bool.{cases_Bool, lt-ltb}
 use Rattle.std.proofs.lemmas.Bool.Decides.{nat_tests}
 use Rattle.std.proofs.lemmas.Slice.Eq.{bytes_eq-Decides}
-use Rattle.ct_tree.specs.Tree.{Tree, File, Dir}
+use Rattle.ct_tree.specs.Tree.{Tree, File}
 use Rattle.ct_tree.specs.Ordered.{IsTree}
 use Rattle.ct_tree.specs.Content.{bytes_in, range, written}
-use Rattle.ct_tree.specs.Checks.{first_of, refuse_if, names, at, bad_path, no_file, above, are_ranges, bad_range, overlap}
+use Rattle.ct_tree.specs.Checks.{first_of, refuse_if, names, at, bad_path, no_file, above, are_ranges, overlap}
 use Rattle.ct_tree.specs.Resolve.{resolve, put, IsDir}
 use Rattle.ct_tree.specs.Step.{write, read, exchange, refusal, effect, answered, step, with_bytes, exchanged, file_limit, read_limit}
 use Rattle.ct_tree.specs.declared.call.Reply.{Reply}
@@ -19,7 +18,7 @@ use Rattle.ct_tree.proofs.Again.{resolve_put, put_put, other_stays, names_differ
 use Rattle.ct_tree.proofs.Exchanges.{exchange_passes, exchanged_within, exchanged_apart, second_apart, written_within, within_both}
 use Rattle.ct_tree.proofs.Ordered.{put_tree, file_short}
 use Rattle.ct_tree.proofs.ReadBack.{range-written, turned_in, turned_length, turned_back, exchanged_back, range_all}
-use Rattle.ct_tree.proofs.Steps.{IsRooted, are_names, first_none, ExchangeChecked, exchange_checked, few_bytes, file_at}
+use Rattle.ct_tree.proofs.Steps.{are_names, first_none, ExchangeChecked, exchange_checked, file_at}
 use Rattle.ct_tree.proofs.Twice.{put_same, put_lost}
 
 -- a call that is not refused has its effect

@@ -1,8 +1,8 @@
 -- Which check decides where more than one of a call's checks fails, by example.
-use Rattle.std.specs.Prelude.{◌≡◌, ℕ, ◌^◌, List, [], ◌∷◌, Some, codes}
+use Rattle.std.specs.Prelude.{◌≡◌, ◌^◌, [], ◌∷◌, Some, codes}
 use Rattle.ct_tree.specs.Tree.{Tree, File, Dir, none, entry}
-use Rattle.ct_tree.specs.Step.{create, mkdir, write, append, read, truncate, unlink, rmdir, rename, exchange, list, locate, refusal}
-use Rattle.ct_tree.specs.declared.call.Refusal.TheVariants.{BadPath, NotFound, NotDir, IsDir, Exists, NotEmpty, IntoSelf, IsRoot, TooBig, BadRange, Overlap, TooLong}
+use Rattle.ct_tree.specs.Step.{create, mkdir, write, read, truncate, unlink, rmdir, rename, exchange, list, locate, refusal}
+use Rattle.ct_tree.specs.declared.call.Refusal.TheVariants.{BadPath, NotFound, NotDir, IsDir, Exists, NotEmpty, IntoSelf, IsRoot, TooBig, BadRange, TooLong}
 
 -- a directory d with an empty file g, and a file f of one byte
 abbrev pub small_tree : Tree

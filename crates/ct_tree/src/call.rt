@@ -154,7 +154,7 @@ impl Model for Bytes {
 }
 
 impl Bytes {
-    pub(crate) fn new(bytes: Vec<u8>) -> Bytes
+    pub fn new(bytes: Vec<u8>) -> Bytes
         ensures { result ≡ bytes.items }
     {
         Bytes { bytes }
@@ -182,7 +182,7 @@ impl Model for NameList {
 }
 
 impl NameList {
-    pub(crate) fn new(names: Vec<Vec<u8>>) -> NameList
+    pub fn new(names: Vec<Vec<u8>>) -> NameList
         ensures { result ≡ map (λ n. n.items) names.items }
     {
         NameList { names }

@@ -1,18 +1,14 @@
-//! The plain file tree: what each call of a file system replies, and the tree that it leaves. It is the model that the file
-//! system is proved against, and a small implementation of it.
+//! The calls of a file system: what each replies to a tree of files, and the tree that it leaves. The tables stand in `specs/Step`
+//! and are the model that the file system is proved against; the code is what they say of paths, bytes and numbers.
 #![tactic(auto)]
 
 mod call;
-mod checks;
-mod content;
+pub mod checks;
+pub mod content;
 pub mod laws;
-mod moves;
-mod node;
-mod path;
-mod plain;
-mod ranges;
+pub mod path;
 mod stop;
 
 pub use call::{Bytes, Call, NameList, Refusal, Reply};
 pub use path::is_name;
-pub use plain::PlainTree;
+pub use stop::Stop;

@@ -1,5 +1,5 @@
 ghost use Rattle.std.proofs.Common.{arith};
-ghost use Rattle.std.specs.Prelude.{List, ◌≡◌, ◌≤◌, ◌*◌, ◌+◌, ◌/◌, ◌<◌, ◌^◌, ◌%◌, ◌⊎◌, ◌↔◌, ℕ, Some, [], ◌∷◌, ◌++◌, length, reverse, OnOk, OnErr, IfOk, IsErr, Contains, slice_index, slice_get, vec_capacity};
+ghost use Rattle.std.specs.Prelude.{List, ◌≡◌, ◌≢◌, ◌≤◌, ◌*◌, ◌+◌, ◌/◌, ◌<◌, ◌^◌, ◌%◌, ◌⊎◌, ◌↔◌, ℕ, Some, [], ◌∷◌, ◌++◌, length, reverse, OnOk, OnErr, IfOk, IsErr, IsTrue, Contains, slice_index, slice_get, vec_capacity};
 ghost use Rattle.ct_pm.specs.Images.{after, words_after};
 ghost use Rattle.ct_base.specs.Causes.{HasCause};
 ghost use Rattle.pm_trace.specs.Trace.{IsWithin};
@@ -99,7 +99,6 @@ impl TracePm {
         self.words
     }
 
-    #[tactic(auto, using(crate::proofs::Chosen::each_chosen, crate::proofs::Chosen::chosen_one))]
     /// A device of the same room that starts as a crash now may leave this one: each line as it was after the step that
     /// `choice` has for it. A choice below the line's floor is raised to it, and one above the clock is lowered. A line
     /// past the end of `choice` is as it is now.
@@ -140,17 +139,37 @@ impl TracePm {
         ensures fails { IsErr result ↔ IsToFail self.old }
         ensures call { CountsCall self.old self.new }
     {
-        let call = self.calls;
+        let fails = self.is_to_fail();
         self.calls = self.calls.saturating_add(1);
-        if self.fail_at.contains(&call) || self.steps.len() as u64 == self.room {
+        if fails {
             self.faults = self.faults.saturating_add(1);
             return Err(PmFault);
         }
+        self.add(step);
+        Ok(())
+    }
+
+    // The next call fails.
+    fn is_to_fail(&self) -> bool
+        ensures { IsTrue result ↔ IsToFail self.now }
+    {
+        self.fail_at.contains(&self.calls) || self.steps.len() as u64 == self.room
+    }
+
+    // Adds a step for which there is room.
+    fn add(&mut self, step: Step)
+        requires within { IsWithin self.old.words.items step }
+        requires room { length self.old.steps.items ≢ room_of self.old }
+        ensures start { self.new.start.items ≡ self.old.start.items }
+        ensures words { self.new.words.items ≡ after self.old.words.items step }
+        ensures steps { self.new.steps.items ≡ self.old.steps.items ++ step ∷ [] }
+        ensures counts { (calls_of self.new ≡ calls_of self.old) × (faults_of self.new ≡ faults_of self.old) }
+        ensures set_up { (listed self.new ≡ listed self.old) × (room_of self.new ≡ room_of self.old) }
+    {
         self.steps.push(step).unwrap();
         if let Step::Store { word, value } = step {
             self.words[word as usize] = value;
         }
-        Ok(())
     }
 }
 

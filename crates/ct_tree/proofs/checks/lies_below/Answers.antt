@@ -1,7 +1,7 @@
 use Rattle.std.proofs.Common.{◌≡◌, ◌∙◌, sym, arith, subst, length, drop, ℕ}
 use Rattle.ct_base.specs.Path.{texts}
 use Rattle.ct_tree.specs.Resolve.{lies_below}
-use Rattle.ct_tree.proofs.Walks.{short_not_below, below_ends}
+use Rattle.ct_tree.proofs.Paths.{short_not_below, below_ends}
 use Rattle.ct_tree.proofs.checks.lies_below.Goals as goal
 
 pub returns-then-to-names : goal.returns-then-to-names

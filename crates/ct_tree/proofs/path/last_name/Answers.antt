@@ -1,4 +1,4 @@
-use Rattle.ct_tree.proofs.Walks.{last_texts}
+use Rattle.ct_tree.proofs.Paths.{last_texts}
 use Rattle.ct_tree.proofs.path.last_name.Goals as goal
 
 pub returns : goal.returns

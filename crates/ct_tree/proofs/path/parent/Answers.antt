@@ -1,4 +1,4 @@
-use Rattle.ct_tree.proofs.Walks.{parent_texts}
+use Rattle.ct_tree.proofs.Paths.{parent_texts}
 use Rattle.ct_tree.proofs.path.parent.Goals as goal
 
 pub returns : goal.returns

@@ -1,0 +1,4 @@
+pub mod Listed
+pub mod Places
+pub mod TreeCode
+pub mod TreeFalls

@@ -1,0 +1,36 @@
+// What a rename looks at.
+ghost use Rattle.std.specs.Prelude.{◌≡◌, ◌∷◌, [], None, OnOk};
+ghost use Rattle.ct_base.specs.Path.{texts};
+ghost use Rattle.ct_tree.specs.Checks.{Passes, first_of, has_none, no_dir, no_node, refuse_if, unlike};
+ghost use Rattle.ct_tree.specs.Resolve.{HasParent, lies_below, parent, resolve};
+ghost use Rattle.ct_tree.specs.declared.call.Refusal.TheVariants.{IntoSelf as into_self, IsRoot as is_root};
+
+use ct_node::Node;
+use ct_tree::Refusal;
+use ct_tree::checks::{check_not_below, check_not_root};
+use ct_tree::path::parent;
+
+/// Something is there that may move, and a directory to which.
+pub fn check_move(root: &Node, names: &[&[u8]], to: &[&[u8]]) -> Result<(), Refusal>
+    ensures below { OnOk result (refuse_if (has_none (texts to.now)) is_root ≡ None) }
+    ensures parent { OnOk result (HasParent root.now (texts to.now)) }
+    ensures passes { Passes result (first_of (refuse_if (has_none (texts names.now)) is_root ∷ refuse_if (has_none (texts to.now)) is_root
+        ∷ no_node (resolve root.now (texts names.now)) ∷ no_dir (resolve root.now (parent (texts to.now)))
+        ∷ refuse_if (lies_below (texts names.now) (texts to.now)) into_self ∷ [])) }
+{
+    check_not_root(names, Refusal::IsRoot)?;
+    check_not_root(to, Refusal::IsRoot)?;
+    root.find(names)?;
+    root.dir_at(parent(to))?;
+    check_not_below(names, to)
+}
+
+/// What moves may take the place of what is there.
+pub fn check_replaced(root: &Node, names: &[&[u8]], to: &[&[u8]]) -> Result<(), Refusal>
+    ensures { Passes result (unlike (resolve root.now (texts names.now)) (resolve root.now (texts to.now))) }
+{
+    match root.find(names) {
+        Ok(node) => node.check_like(root, to),
+        Err(_) => Ok(()),
+    }
+}

@@ -1,5 +1,0 @@
-use Rattle.ct_tree.proofs.Walks.{some_entries}
-use Rattle.ct_tree.proofs.node.check_empty.Goals as goal
-
-pub returns-in-len1-up : goal.returns-in-len1-up
-returns-in-len1-up c = some_entries c.args.entries.now c.in-len1-up.len_at_least

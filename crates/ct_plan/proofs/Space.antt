@@ -61,7 +61,7 @@ unfolding missing
 missing_append img xs ys =
     omega (arith, missing_at_append img xs ys 1, missing_at_append img xs ys 2, missing_at_append img xs ys 3, missing_at_append img xs ys 4)
 
-missing_at_span : (img : List ℕ) (wants : List Want) (d lo hi : ℕ) → ((x : ℕ) → is_wanted wants d x ≡ true → (lo ≤ x) × (x < hi)) → missing_at img wants d ≤ hi - lo
+pub missing_at_span : (img : List ℕ) (wants : List Want) (d lo hi : ℕ) → ((x : ℕ) → is_wanted wants d x ≡ true → (lo ≤ x) × (x < hi)) → missing_at img wants d ≤ hi - lo
 unfolding missing_at
 missing_at_span img wants d lo hi each =
     (count_span (λ x. is_wanted wants d x && (page_at img d x == 0)) lo hi (512 ^ d) (λ x both. each x (and_parts (is_wanted wants d x) (page_at img d x == 0) both).0)).1
@@ -73,7 +73,7 @@ missing_nothing img =
     omega (arith, at 1, at 2, at 3, at 4)
 
 -- a cell of width w that meets the numbers from s to v
-cell_span : (w x s v : ℕ) → 0 < w → s < x * w + w → x * w ≤ v → (s / w ≤ x) × (x < v / w + 1)
+pub cell_span : (w x s v : ℕ) → 0 < w → s < x * w + w → x * w ≤ v → (s / w ≤ x) × (x < v / w + 1)
 cell_span w x s v some to from =
     let e = div-add-mod s w in
     let f = div-add-mod v w in
@@ -116,7 +116,7 @@ unfolding words_above
 length-words_above n j zero = refl
 length-words_above n j (suc count) = ap suc (length-words_above (n + 1) (j / 8) count)
 
-missing_growth : (img : List ℕ) (f : Inode) (new : Partition) → missing img (growth_wants f new) ≤ 48
+pub missing_growth : (img : List ℕ) (f : Inode) (new : Partition) → missing img (growth_wants f new) ≤ 48
 missing_growth img f new =
     let heads = missing_words img (words_above new.level (new.base / part_bytes new.level) (10 - new.level)) in
     let count = length-words_above new.level (new.base / part_bytes new.level) (10 - new.level) in
@@ -152,7 +152,7 @@ missing_pages img s n some =
     let four : missing_at img (record { height = 0; at = s * 4096; len = n * 4096 } ∷ []) 4 ≤ n = omega (arith, missing_at_pages img s n 4 some) in
     omega (arith, one, two, three, four)
 
-missing_counted : (img : List ℕ) (f : Inode) (new : Partition) (k v : ℕ) → missing img (counted f new (table_want k v) ∷ []) ≤ 4
+pub missing_counted : (img : List ℕ) (f : Inode) (new : Partition) (k v : ℕ) → missing img (counted f new (table_want k v) ∷ []) ≤ 4
 missing_counted img f new k v =
     elim (cases_Bool ((nat_le f.level 9 && nat_le k (exchange_height f.level)) && (nat_le new.base v && nat_lt v (new.base + part_bytes f.level)))) [
       | inl t ↦ rw t (missing_one img k (v - new.base + f.base))

@@ -27,20 +27,3 @@ pub fn edge(top: u32, page: u64) -> u32
 {
     alike(top, page, 0) + 1
 }
-
-#[cfg(test)]
-mod tests {
-    use super::*;
-    use std::test::Fail;
-
-    #[test]
-    fn heights(rt: HostRuntime) -> Result<(), Fail> {
-        assert_eq!(rt; alike(3, 1, 513), 1);
-        assert_eq!(rt; alike(3, 0, 134_217_728), 3);
-        assert_eq!(rt; alike(1, 0, 134_217_728), 1);
-        assert_eq!(rt; edge(3, 511), 1);
-        assert_eq!(rt; edge(3, 512), 2);
-        assert_eq!(rt; edge(3, 0), 4);
-        Ok(())
-    }
-}

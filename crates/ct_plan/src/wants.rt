@@ -110,32 +110,3 @@ pub fn write_wants(inode: Inode, off: u64, len: u64, base: u64) -> [Want; 4]
     let page = pages(0, staged, n);
     [brought, stays, last, page]
 }
-
-#[cfg(test)]
-mod tests {
-    use super::*;
-    use std::test::Fail;
-
-    // Height, address and length of a want.
-    fn parts(want: &Want) -> (u32, u64, u64) {
-        (want.height, want.at.get(), want.len)
-    }
-
-    #[test]
-    fn a_write_that_grows(rt: HostRuntime) -> Result<(), Fail> {
-        // An old partition of level 4, 8 blocks of 512 pages, of which the first page is not written.
-        let inode = Inode {
-            kind: 1,
-            size: 4096,
-            base: 10 * SLOT,
-            level: 4,
-        };
-        let wants = write_wants(inode, 4096, 4096 * 8 * 512, 11 * SLOT);
-        let wants = &wants[..];
-        assert_eq!(rt; parts(&wants[0]), (1, 10 * SLOT + 4096, 1));
-        assert_eq!(rt; parts(&wants[1]), (2, 11 * SLOT + 4096, 1));
-        assert_eq!(rt; parts(&wants[2]), (1, 11 * SLOT + 4096 * 4096, 1));
-        assert_eq!(rt; parts(&wants[3]), (0, 2 * SLOT + 4096, 4096 * 4096));
-        Ok(())
-    }
-}

@@ -27,7 +27,9 @@ use Rattle.ct_state.proofs.Write.{HasSpace, WritesFile, owns_on, part-same, spac
 use Rattle.ct_words.proofs.Shown.{little-shown}
 use Rattle.ct_write.specs.Prepared.{Prepared}
 use Rattle.ct_write.specs.Recorded.{Recorded}
-use Rattle.ct_write.specs.Written.{CanWrite, IsWritten, edit_of, side_page, stage_page}
+use Rattle.ct_write.specs.Written.{CanWrite, IsEdited, edit_of, side_page, size_after, stage_page}
+use Rattle.ct_write.proofs.Changing.{Changing}
+use Rattle.ct_write.proofs.Sizing.{sized_inode}
 use Rattle.ct_write.proofs.Spots.{Spot, spot}
 
 pub room_of : {img : List ℕ} {i off len : ℕ} → CanWrite img i off len → HasRoom (inode (view img) i)
@@ -53,14 +55,13 @@ unseen_out v from to low high not_seen = elim (cases_lt v from) [
     seen_part v from to = grind arith
 
 -- Pages were staged, and the record was made.
-pub record Calls (w0 w2 w3 : List ℕ) (i off len : ℕ) (given : Given) : Type 0 where
+pub record Calls (w0 w2 w3 : List ℕ) (i off len : ℕ) (given : Given) (size : ℕ) : Type 0 where
   pub can : CanWrite w0 i off len
   pub prepared : Prepared w0 w2 (side_page (inode (view w0) i) off) (stage_page (inode (view w0) i) off) (touched off len) (edit_of (inode (view w0) i) off len given)
-  pub recorded : Recorded w2 w3 i (side_page (inode (view w0) i) off) (stage_page (inode (view w0) i) off) (touched off len) (max (inode (view w0) i).size (off + len))
+  pub recorded : Recorded w2 w3 i (side_page (inode (view w0) i) off) (stage_page (inode (view w0) i) off) (touched off len) size
   pub bytes : AreBytes (edit_of (inode (view w0) i) off len given)
-  pub small : max (inode (view w0) i).size (off + len) < 2 ^ 64
 
-module _ {w0 w2 w3 : List ℕ} {i off len : ℕ} {given : Given} (c : Calls w0 w2 w3 i off len given) where
+module _ {w0 w2 w3 : List ℕ} {i off len : ℕ} {given : Given} {size : ℕ} (c : Calls w0 w2 w3 i off len given size) where
   abbrev f : Inode
   f = inode (view w0) i
 
@@ -132,18 +133,20 @@ module _ {w0 w2 w3 : List ℕ} {i off len : ℕ} {given : Given} (c : Calls w0 w
         ∙ sym (edited-off (view w0) edit v (unseen_out v (f.base + off) (f.base + off + len) (omega (arith, (room_of c.can).part.low)) (omega (arith, s.range_to, s.to, s.high)) other) ∙ view-other w0 v other)
   ]
 
-  new_size : (inode (view w3) i).size ≡ max f.size (off + len)
-  new_size =
-      let few = c.can.live.number.to in
-      let most = c.can.ready.inodes.1 in
-      let at : 64 * i + 8 * 1 ≡ 64 * i + 8 = omega arith in
-      little-shown w3 (64 * i + 8 * 1) (omega arith) (or_left _ _ (lt-ltb (64 * i + 8 * 1) 1099511627776 (omega arith)))
-      ∙ ap (λ v. Rattle.ct_words.specs.Shown.shown_word w3 v) at ∙ c.recorded.sized.is
+  new_size : (inode (view w3) i).size ≡ size
+  new_size = sized_inode c.recorded.sized (omega (arith, c.can.live.number.to, c.can.ready.inodes.1))
 
   new_head : (w : ℕ) → w < 512 → word w3 w ≡ word w0 w
   new_head w lt = c.recorded.sized.head w lt ∙ c.recorded.head w lt ∙ c.prepared.head w lt
 
-  pub written : IsWritten w0 w3 i off len given
+  -- the exchange leaves the other staging slots alone
+  root_stays : (k : ℕ) → 3 ≤ k → k < 10 → page_at c.recorded.middle 1 k ≡ page_at w2 1 k
+  root_stays k from to =
+      let at : k * 2 ^ 27 / 512 ^ (4 - 1) ≡ k = omega arith in
+      let out : Outside a b n (k * 2 ^ 27) = record { first = λ le. omega (arith, le, to, s.first_from); second = λ le. omega (arith, from, s.second_to) } in
+      ap (page_at c.recorded.middle 1) (sym at) ∙ e.cells 1 (k * 2 ^ 27) (omega arith) out ∙ ap (page_at w2 1) at
+
+  pub written : IsEdited w0 w3 i off len given size
   written = record {
     bytes = new_byte;
     size = new_size;
@@ -154,12 +157,31 @@ module _ {w0 w2 w3 : List ℕ} {i off len : ℕ} {given : Given} (c : Calls w0 w
         let most = c.can.ready.inodes.1 in
         c.recorded.sized.bytes v (omega (arith, to)) (inr (omega (arith, from, few, most)))
         ∙ away_from v (omega (arith, to)) (λ slot. omega (arith, slot, from)) (inl (omega (arith, to, s.first_from)));
+    roots = λ k from to. c.recorded.sized.cells 1 k (omega arith) ∙ root_stays k from to ∙ c.prepared.roots k from to;
     head = new_head;
+    length = c.recorded.sized.size ∙ e.size ∙ c.prepared.size;
   }
 
--- ---- the rules after a write
+-- ---- the file after that
 
-module _ {w0 new : List ℕ} {i off len : ℕ} {given : Given} (can : CanWrite w0 i off len) (w : IsWritten w0 new i off len given) where
+-- a size that the partition holds, with zeros behind it once the edit is made
+pub record IsSize (img : List ℕ) (i off len : ℕ) (given : Given) (size : ℕ) : Type 0 where
+  pub fits : size ≤ part_bytes (inode (view img) i).level
+  pub tail : (k : ℕ) → size ≤ k → k < part_bytes (inode (view img) i).level → edited (view img) (edit_of (inode (view img) i) off len given) ((inode (view img) i).base + k) ≡ 0
+
+-- that of a write is one
+pub write_size : {img : List ℕ} {i off len : ℕ} (given : Given) → CanWrite img i off len → IsSize img i off len given (size_after img i off len)
+write_size {img} {i} {off} {len} given can =
+    let g = inode (view img) i in
+    record {
+      fits = max-le (room_of can).size can.fits;
+      tail = λ k past lt.
+          let one : (inode (view img) i).size ≤ k = omega (arith, le-max_left (inode (view img) i).size (off + len), past) in
+          let two : off + len ≤ k = omega (arith, le-max_right (inode (view img) i).size (off + len), past) in
+          edited-off (view img) (edit_of g off len given) (g.base + k) (inr (omega (arith, two))) ∙ (space_of img can.ready).tails i (owns_of can) k one lt;
+    }
+
+module _ {w0 new : List ℕ} {i off len : ℕ} {given : Given} {size : ℕ} (can : CanWrite w0 i off len) (sized : IsSize w0 i off len given size) (w : IsEdited w0 new i off len given size) where
   abbrev g : Inode
   g = inode (view w0) i
 
@@ -172,65 +194,28 @@ module _ {w0 new : List ℕ} {i off len : ℕ} {given : Given} (can : CanWrite w
     | inr from ↦ elim (cases_lt v (g.base + off + len)) [ inl lt ↦ absurd (out (record { from = omega arith; to = omega (arith, lt, can.fits) })) | inr past ↦ inr past ]
   ]
 
-  pub writes : WritesFile (view w0) (view new) (inode_count w0) i
+  writes : WritesFile (view w0) (view new) (inode_count w0) i
   writes = record {
     space = space_of w0 can.ready;
     owns = owns_of can;
     file = can.file;
     others = λ v out off_size. w.bytes v off_size ∙ edited-off (view w0) (edit_of g off len given) v (off_part v out);
-    fits = subst (λ (k : ℕ). k ≤ part_bytes g.level) (sym w.size) (max-le (room_of can).size can.fits);
+    fits = subst (λ (k : ℕ). k ≤ part_bytes g.level) (sym w.size) sized.fits;
     tail = λ k past lt.
         let low = (room_of can).part.low in
         let few = can.live.number.to in
         let most = can.ready.inodes.1 in
-        let one : g.size ≤ k = omega (arith, le-max_left g.size (off + len), w.size, past) in
-        let two : off + len ≤ k = omega (arith, le-max_right g.size (off + len), w.size, past) in
-        w.bytes (g.base + k) (inr (omega (arith, low, few, most))) ∙ edited-off (view w0) (edit_of g off len given) (g.base + k) (inr (omega (arith, two)))
-        ∙ (space_of w0 can.ready).tails i (owns_of can) k one lt;
+        w.bytes (g.base + k) (inr (omega (arith, low, few, most))) ∙ sized.tail k (omega (arith, w.size, past)) lt;
   }
 
-  unmapped : (p : ℕ) → 10 * 2 ^ 27 ≤ p → ((j : ℕ) → Owns (view new) (inode_count new) j → IsIn (part_of (view new) j) (p * 4096) → ⊥) → page_at new 4 p ≡ 0
-  unmapped p low out =
-      let not_in : (j : ℕ) → Owns (view w0) (inode_count w0) j → IsIn (part_of (view w0) j) (p * 4096) → ⊥ =
-      λ j owns inside. out j (subst (λ k. Owns (view new) k j) (sym w.inodes) (owns_on writes j owns))
-      (subst (λ q. IsIn q (p * 4096)) (sym (part-same writes j owns.live.number)) inside) in
-      w.pages p (λ slot. omega (arith, slot, low)) (elim (cases_lt p (side_page g off)) [
-        | inl before ↦ inl before
-        | inr from ↦ elim (cases_lt p (side_page g off + touched off len)) [
-          | inl lt ↦ absurd (not_in i (owns_of can) (record { from = omega (arith, at.from, from); to = omega (arith, at.to, lt) }))
-          | inr past ↦ inr past
-        ]
-      ]) ∙ can.ready.rules mapped (omega arith) p low not_in
+  off_pages : (p : ℕ) → (IsIn (part_of (view w0) i) (p * 4096) → ⊥) → (p < side_page g off) ⊎ (side_page g off + touched off len ≤ p)
+  off_pages p out = elim (cases_lt p (side_page g off)) [
+    | inl before ↦ inl before
+    | inr from ↦ elim (cases_lt p (side_page g off + touched off len)) [
+      | inl lt ↦ absurd (out (record { from = omega (arith, at.from, from); to = omega (arith, at.to, lt) }))
+      | inr past ↦ inr past
+    ]
+  ]
 
-  pub written_whole : AreTables new → IsWhole new
-  written_whole tables = record { tables = tables; mapped = unmapped }
-
-  space_now : HasSpace (view new) (inode_count new)
-  space_now = subst (λ (k : ℕ). HasSpace (view new) k) (sym w.inodes) (space_stays writes)
-
-  pub rules_now : AreTables new → (r : Rule) → number r ≤ 16 → HoldsAt new r
-  rules_now t entries le = λ d x j ld lt seen. t.entries d x j ld lt
-  rules_now t once le = λ d x e y ld lf seen seen'. t.once d x e y ld lf
-  rules_now t inodes le = space_now.inodes
-  rules_now t placed le = space_now.placed
-  rules_now t apart le = space_now.apart
-  rules_now t tails le = space_now.tails
-  rules_now t mapped le = unmapped
-  rules_now t headers le = space_now.headers
-  rules_now t rest le = space_now.rest
-  rules_now t slots le = absurd (omega arith)
-  rules_now t names le = absurd (omega arith)
-  rules_now t named le = absurd (omega arith)
-  rules_now t reached le = absurd (omega arith)
-
-  pub written_ready : AreTables new → IsShut new → word new 16898 ≡ 0 → IsReady new
-  written_ready tables shut unstaged = record {
-    tables = tables;
-    shut = shut;
-    unstaged = unstaged;
-    rules = rules_now tables;
-    inodes = (omega (arith, w.inodes, can.ready.inodes.0), omega (arith, w.inodes, can.ready.inodes.1));
-  }
-
-  pub written_placed : Rattle.ct_base.specs.Rules.ArePlaced (view new) (inode_count new)
-  written_placed = space_now.placed
+  pub changing : Changing w0 new i
+  changing = record { ready = can.ready; writes = writes; inodes = w.inodes; pages = λ p low out. w.pages p (λ slot. omega (arith, slot, low)) (off_pages p out) }

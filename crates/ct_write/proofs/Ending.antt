@@ -1,5 +1,5 @@
 -- Root slot 2 is emptied after the record of a write.
-use Rattle.std.proofs.Common.{◌≡◌, ◌≢◌, ℕ, ◌+◌, ◌*◌, ◌/◌, ◌%◌, ◌^◌, ◌<◌, List, length, sym, ap, subst, ◌∙◌, inl, inr, arith}
+use Rattle.std.proofs.Common.{◌≡◌, ◌≢◌, ℕ, ◌+◌, ◌*◌, ◌/◌, ◌%◌, ◌^◌, ◌<◌, ◌≤◌, List, length, sym, ap, subst, ◌∙◌, inl, inr, arith}
 use Rattle.std.specs.Prelude.{slice_set}
 use Rattle.std.proofs.lemmas.List.{get_or-set_same, get_or-set_other, length-set}
 use Rattle.ct_base.specs.Inode.{inode}
@@ -16,8 +16,9 @@ use Rattle.ct_stage.specs.declared.edit.Given.{Given}
 use Rattle.ct_state.specs.Alike.{Alike, IsWhole}
 use Rattle.ct_state.proofs.Neutral.{cut_alike, cut_whole}
 use Rattle.ct_state.proofs.Shut.{shut_state}
-use Rattle.ct_write.specs.Written.{IsWritten}
-use Rattle.ct_write.proofs.Done.{Calls, written, written_ready, written_whole}
+use Rattle.ct_write.specs.Written.{IsEdited}
+use Rattle.ct_write.proofs.Changing.{changed_ready, changed_whole}
+use Rattle.ct_write.proofs.Done.{Calls, IsSize, changing, written}
 
 -- root slot 2 becomes 0
 slot_cut : {old new : List ℕ} → AreTables old → new ≡ slice_set old 16898 0 → Cuts old new 0 0 2
@@ -59,7 +60,7 @@ module _ {old new : List ℕ} (x : Empties old new) where
   pub empty_whole : IsWhole new
   empty_whole = cut_whole cut (omega arith) (omega arith) x.whole
 
-  empty_page : (p : ℕ) → p / 2 ^ 27 ≢ 2 → page_at new 4 p ≡ page_at old 4 p
+  pub empty_page : (p : ℕ) → p / 2 ^ 27 ≢ 2 → page_at new 4 p ≡ page_at old 4 p
   empty_page p away = elim (cut_at cut 4 p (omega arith)) [
     | inl gone ↦
         let at = on_way_parts 1 (0 * 512 + 2) 4 p gone.0 in
@@ -70,8 +71,23 @@ module _ {old new : List ℕ} (x : Empties old new) where
     | inr stays ↦ stays.1
   ]
 
+  -- each other root slot stays
+  pub empty_root : (k : ℕ) → 3 ≤ k → page_at new 1 k ≡ page_at old 1 k
+  empty_root k from = elim (cut_at cut 1 k (omega arith)) [
+    | inl gone ↦
+        let at = on_way_parts 1 (0 * 512 + 2) 1 k gone.0 in
+        let none : at.0 ≡ 0 = omega (arith, at.2) in
+        let width : 512 ^ at.0 ≡ 1 = ap (λ j. 512 ^ j) none in
+        let prod : (0 * 512 + 2) * 512 ^ at.0 ≡ 2 = ap (λ j. (0 * 512 + 2) * j) width in
+        absurd (omega (arith, from, at.3, at.4, width, prod))
+    | inr stays ↦ stays.1
+  ]
+
+  pub empty_length : length new ≡ length old
+  empty_length = cut.size
+
   -- each byte off the slot stays
-  empty_byte : (v : ℕ) → v < 2 ^ 48 → v / 2 ^ 39 ≢ 2 → byte new v ≡ byte old v
+  pub empty_byte : (v : ℕ) → v < 2 ^ 48 → v / 2 ^ 39 ≢ 2 → byte new v ≡ byte old v
   empty_byte v small away =
       let root : page_at old 0 0 ≡ 33 = page_at-root old in
       let p = v / 4096 in
@@ -85,25 +101,27 @@ module _ {old new : List ℕ} (x : Empties old new) where
       shut_state (record { lawful = (shut_few 0 old x.shut).lawful; lawful_too = (shut_few 0 new empty_shut).lawful; words = λ w lt. empty_word w (omega arith); size = cut.size })
       x.shut empty_shut x.whole empty_whole empty_alike
 
-  pub empty_written : {w0 : List ℕ} {i off len : ℕ} {given : Given} → IsWritten w0 old i off len given → IsWritten w0 new i off len given
+  pub empty_written : {w0 : List ℕ} {i off len : ℕ} {given : Given} {size : ℕ} → IsEdited w0 old i off len given size → IsEdited w0 new i off len given size
   empty_written {w0} {i} w = record {
     bytes = λ v off_size. ap (λ g. g v) empty_alike.bytes ∙ w.bytes v off_size;
     size = ap (λ g. (inode g i).size) empty_alike.bytes ∙ w.size;
     inodes = empty_alike.inodes ∙ w.inodes;
     pages = λ p away out. empty_page p away ∙ w.pages p away out;
     staged = λ v from to. empty_byte v (omega (arith, to)) (λ slot. omega (arith, slot, from)) ∙ w.staged v from to;
+    roots = λ k from to. empty_root k from ∙ w.roots k from to;
     head = λ k lt. empty_word k (omega arith) ∙ w.head k lt;
+    length = cut.size ∙ w.length;
   }
 
   pub empty_placed : ArePlaced (view old) (inode_count old) → ArePlaced (view new) (inode_count new)
   empty_placed rule = subst (λ c. ArePlaced c (inode_count new)) (sym empty_alike.bytes) (subst (λ (k : ℕ). ArePlaced (view old) k) (sym empty_alike.inodes) rule)
 
-module _ {w0 w2 w3 w4 : List ℕ} {i off len : ℕ} {given : Given} (c : Calls w0 w2 w3 i off len given) (shut : IsShut w3) (is : w4 ≡ slice_set w3 16898 0) where
+module _ {w0 w2 w3 w4 : List ℕ} {i off len : ℕ} {given : Given} {size : ℕ} (sized : IsSize w0 i off len given size) (c : Calls w0 w2 w3 i off len given size) (shut : IsShut w3) (is : w4 ≡ slice_set w3 16898 0) where
   pub empties : Empties w3 w4
-  empties = record { shut = shut; whole = written_whole c.can (written c) c.recorded.sized.tables; is = is }
+  empties = record { shut = shut; whole = changed_whole (changing c.can sized (written c)) c.recorded.sized.tables; is = is }
 
-  pub end_written : IsWritten w0 w4 i off len given
+  pub end_written : IsEdited w0 w4 i off len given size
   end_written = empty_written empties (written c)
 
   pub end_ready : IsReady w4
-  end_ready = written_ready c.can end_written (empty_whole empties).tables (empty_shut empties) (empty_slot empties)
+  end_ready = changed_ready (changing c.can sized end_written) (empty_whole empties).tables (empty_shut empties) (empty_slot empties)

@@ -33,7 +33,8 @@ use Rattle.ct_tree.proofs.Ordered.{resized_length}
 use Rattle.ct_write.specs.declared.data.Data.{Data}
 use Rattle.ct_write.specs.declared.data.Data.TheVariants.{Bytes, Fill}
 use Rattle.ct_write.specs.Written.{CanWrite, IsWritten, data_bytes, data_given, data_len, edit_of}
-use Rattle.ct_write.proofs.Done.{owns_of, room_of, rules_now, writes}
+use Rattle.ct_write.proofs.Changing.{Changing, bytes_had, changed_stands, file_now, size_had}
+use Rattle.ct_write.proofs.Done.{changing, room_of, write_size}
 
 -- ---- the bytes of a write, as the tree has them
 
@@ -49,7 +50,7 @@ written_length old off (x ∷ bytes) some =
       | inr more ↦ omega (arith, a, b, c, d, max-eq_left {n = length old} {m = off + length {A = ℕ} (x ∷ bytes)} more, more)
     ]
 
-resized_at : (off : ℕ) (old : List ℕ) (k : ℕ) → k < off → slice_index (resized off old) k ≡ slice_index old k
+pub resized_at : (off : ℕ) (old : List ℕ) (k : ℕ) → k < off → slice_index (resized off old) k ≡ slice_index old k
 resized_at off old k lt =
     let taken = length-take off old in
     elim (cases_lt k (length old)) [
@@ -98,74 +99,35 @@ module _ {old new : List ℕ} {i off len : ℕ} {given : Given} (can : CanWrite 
   abbrev f : Inode
   f = inode (view old) i
 
-  same_base : (inode (view new) i).base ≡ f.base
-  same_base = ap (λ p. p.base) (part-same (writes can w) i can.live.number)
-
-  object_new : files new i ≡ Rattle.ct_base.specs.Objects.object (view new) i
-  object_new = ap (λ k. objects (view new) k i) w.inodes ∙ objects-in (view new) (inode_count old) i can.live.number
-
-  object_old : files old i ≡ Rattle.ct_base.specs.Objects.object (view old) i
-  object_old = objects-in (view old) (inode_count old) i can.live.number
+  pub changed : Changing old new i
+  changed = changing can (write_size given can) w
 
   -- the file has the bytes of the tree's write
   pub file_written : (was bytes : List ℕ) → IsFile (files old i) was → length bytes ≡ len → ((k : ℕ) → k < len → given_at given k ≡ slice_index bytes k) → IsFile (files new i) (written was off bytes)
   file_written was bytes is count gives =
-      let had : IsFile (Rattle.ct_base.specs.Objects.object (view old) i) was = subst (λ o. IsFile o was) object_old is in
+      let had = size_had changed was is in
       let some : 1 ≤ length bytes = omega (arith, count, can.some) in
-      let size : (inode (view new) i).size ≡ length (written was off bytes) = w.size ∙ ap (λ k. max k (off + len)) had.size ∙ ap (λ k. max (length was) (off + k)) (sym count) ∙ sym (written_length was off bytes some) in
-      subst (λ o. IsFile o (written was off bytes)) (sym object_new) (record {
-        kind = sym (ap (λ (o : Object). o.kind) (objects-in (view new) (inode_count old) i can.live.number)) ∙ (object_written (writes can w)).is;
-        size = size;
-        all = λ k lt. content-at (view new) (inode (view new) i).base (inode (view new) i).size k (omega (arith, size, lt)) ∙ ap (λ x. view new (x + k)) same_base ∙ byte had some k (omega (arith, size, lt));
-      })
+      let size : (inode (view new) i).size ≡ length (written was off bytes) = w.size ∙ ap (λ k. max k (off + len)) had ∙ ap (λ k. max (length was) (off + k)) (sym count) ∙ sym (written_length was off bytes some) in
+      file_now changed (written was off bytes) size (λ k lt. byte some k lt)
     where
-      byte : IsFile (Rattle.ct_base.specs.Objects.object (view old) i) was → 1 ≤ length bytes → (k : ℕ) → k < (inode (view new) i).size → view new (f.base + k) ≡ slice_index (written was off bytes) k
-      byte had some k lt =
+      byte : 1 ≤ length bytes → (k : ℕ) → k < (inode (view new) i).size → view new (f.base + k) ≡ slice_index (written was off bytes) k
+      byte some k lt =
           let low = (room_of can).part.low in
           let few = can.live.number.to in
           let most = can.ready.inodes.1 in
-          let fits : (inode (view new) i).size ≤ part_bytes f.level = (writes can w).fits in
+          let fits : (inode (view new) i).size ≤ part_bytes f.level = changed.writes.fits in
+          let stays : view old (f.base + k) ≡ slice_index was k = bytes_had changed was is k (omega (arith, lt, fits)) in
           w.bytes (f.base + k) (inr (omega (arith, low, few, most))) ∙ elim (cases_lt k off) [
-            | inl before ↦ edited-off (view old) (edit_of f off len given) (f.base + k) (inl (omega arith)) ∙ stays k (omega (arith, lt, fits)) ∙ sym (written_before was off bytes k some before)
+            | inl before ↦ edited-off (view old) (edit_of f off len given) (f.base + k) (inl (omega arith)) ∙ stays ∙ sym (written_before was off bytes k some before)
             | inr from ↦ elim (cases_lt k (off + len)) [
               | inl inside ↦
                   edited-in (view old) (edit_of f off len given) (f.base + k) (omega arith) (omega arith) ∙ ap (given_at given) (omega arith) ∙ gives (k - off) (omega arith)
                   ∙ sym (written_inside was off bytes k from (omega (arith, count)))
-              | inr past ↦ edited-off (view old) (edit_of f off len given) (f.base + k) (inr (omega arith)) ∙ stays k (omega (arith, lt, fits)) ∙ sym (written_after was off bytes k some (omega (arith, count)))
+              | inr past ↦ edited-off (view old) (edit_of f off len given) (f.base + k) (inr (omega arith)) ∙ stays ∙ sym (written_after was off bytes k some (omega (arith, count)))
             ]
           ]
-        where
-          stays : (k : ℕ) → k < part_bytes f.level → view old (f.base + k) ≡ slice_index was k
-          stays k small = elim (cases_lt k f.size) [
-            | inl less ↦ sym (content-at (view old) f.base f.size k less) ∙ had.all k (omega (arith, had.size))
-            | inr more ↦ (space_of old can.ready).tails i (owns_of can) k more small ∙ sym (get_or_past was k 0 (omega (arith, had.size)))
-          ]
-
-  back : (P : (ℕ → ℕ) → ℕ → Type 0) → P (view new) (inode_count old) → P (view new) (inode_count new)
-  back P h = subst (λ k. P (view new) k) (sym w.inodes) h
-
-  -- none of the rules fails
-  pub written_sound : AreTables new → Sound old → Sound new
-  written_sound t sound entries = rules_now can w t entries (omega arith)
-  written_sound t sound once = rules_now can w t once (omega arith)
-  written_sound t sound inodes = rules_now can w t inodes (omega arith)
-  written_sound t sound placed = rules_now can w t placed (omega arith)
-  written_sound t sound apart = rules_now can w t apart (omega arith)
-  written_sound t sound tails = rules_now can w t tails (omega arith)
-  written_sound t sound mapped = rules_now can w t mapped (omega arith)
-  written_sound t sound headers = rules_now can w t headers (omega arith)
-  written_sound t sound rest = rules_now can w t rest (omega arith)
-  written_sound t sound slots = back (λ b k. AreEntries (objects b k)) (entries_stay (object_written (writes can w)) (sound slots))
-  written_sound t sound names = back (λ b k. AreNamesApart (objects b k)) (names_apart_stay (object_written (writes can w)) (sound names))
-  written_sound t sound named = back (λ b k. AreNamed (objects b k)) (named_stay (object_written (writes can w)) (sound named))
-  written_sound t sound reached = back (λ b k. AreReached (objects b k)) (reached_stay (object_written (writes can w)) (sound reached))
 
   -- and the tree is that of the write
   pub written_stands : Sound old → (rs xs : List (List ℕ)) (t : Tree) (was bytes : List ℕ) → Path (files old) rs i → rs ≡ onto xs [] → Leads (files old) 1 xs i → LeadsTo t xs (File was) → IsTree t
       → Stands (files old) 1 t → IsFile (files old i) was → length bytes ≡ len → ((k : ℕ) → k < len → given_at given k ≡ slice_index bytes k) → Stands (files new) 1 (put t xs (File (written was off bytes)))
-  written_stands sound rs xs t was bytes way on leads to tree st is count gives =
-      let files_new : files new ≡ objects (view new) (inode_count old) = ap (objects (view new)) w.inodes in
-      let o = object_written (writes can w) in
-      subst (λ fs. Stands fs 1 (put t xs (File (written was off bytes)))) (sym files_new)
-      (tree_graft (λ j other. o.others j other) (once_named (sound slots) (sound names) (sound named)) rs (path_up (files old) rs i way) xs t (File was) (File (written was off bytes)) on leads to tree st
-      (subst (λ fs. IsFile (fs i) (written was off bytes)) files_new (file_written was bytes is count gives)))
+  written_stands sound rs xs t was bytes way on leads to tree st is count gives = changed_stands changed sound rs xs t was (written was off bytes) way on leads to tree st (file_written was bytes is count gives)

@@ -4,11 +4,14 @@ pub mod Paths
 pub mod Tabled
 pub mod Reaching
 pub mod Spots
+pub mod Changing
 pub mod Done
 pub mod Counting
 pub mod Ending
+pub mod Turning
 pub mod Moving
 pub mod Opening
 pub mod Files
 pub mod Following
 pub mod Telling
+pub mod Lengthening

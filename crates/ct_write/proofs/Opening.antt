@@ -1,7 +1,6 @@
 -- What the call was given, as the function has it.
 use Rattle.std.proofs.Common.{◌≡◌, ℕ, ◌+◌, ◌*◌, ◌/◌, ◌^◌, ◌<◌, ◌≤◌, List, length, sym, ap, subst, ◌∙◌, arith}
 use Rattle.std.specs.Prelude.{max, Option}
-use Rattle.std.proofs.Math.Nat.{max-le}
 use Rattle.std.proofs.lemmas.Bool.{lt-ltb, or_left}
 use Rattle.ct_base.specs.declared.inode.Inode.{Inode}
 use Rattle.ct_base.specs.Inode.{inode, part, part_bytes}
@@ -23,9 +22,9 @@ use Rattle.ct_words.proofs.Shown.{little-shown}
 use Rattle.ct_words.specs.Shown.{shown_word}
 use Rattle.ct_write.specs.Prepared.{Prepared, range_wants}
 use Rattle.ct_write.specs.Recorded.{CanRecord, Recorded, SettlesRecorded}
-use Rattle.ct_write.specs.Written.{CanWrite, edit_of, side_page, stage_page}
+use Rattle.ct_write.specs.Written.{CanWrite, edit_of, side_page, size_after, stage_page}
 use Rattle.ct_write.proofs.Counting.{range_missing}
-use Rattle.ct_write.proofs.Done.{room_of, spot_of}
+use Rattle.ct_write.proofs.Done.{IsSize, spot_of, write_size}
 use Rattle.ct_write.proofs.Moving.{Staged}
 use Rattle.ct_write.proofs.Spots.{Spot, few_pieces}
 
@@ -95,32 +94,30 @@ module _ {w0 : List ℕ} {i off len : ℕ} {given : Given} {file : Inode} {a b n
   pub open_missing : missing w0 (range_wants a b n) ≡ missing w0 (write_wants f off len (part f))
   open_missing = from_file (λ x y z. missing w0 (range_wants x y z) ≡ missing w0 (write_wants f off len (part f))) (range_missing w0 f off len (omega arith))
 
-  size_small : max f.size (off + len) < 2 ^ 64
-  size_small =
-      let most : max f.size (off + len) ≤ part_bytes f.level = max-le (room_of o.can).size o.can.fits in
-      omega (arith, most, part_small o.can)
-
-  pub staged_by : {w2 : List ℕ} → Prepared w0 w2 a b n (edit_of file off len given) → SameState w0 w2 → Staged w0 w2 i off len given
-  staged_by {w2} p still = record {
+  pub staged_by : {w2 : List ℕ} {size : ℕ} → IsSize w0 i off len given size → Prepared w0 w2 a b n (edit_of file off len given) → SameState w0 w2 → Staged w0 w2 i off len given size
+  staged_by {w2} sized p still = record {
     can = o.can;
     prepared = at_file (λ x y z. Prepared w0 w2 x y z (edit_of f off len given)) (subst (λ (g : Inode). Prepared w0 w2 a b n (edit_of g off len given)) o.file_is p);
     still = still;
     bytes = o.bytes;
-    small = size_small;
+    sized = sized;
   }
 
-  -- the size that is drafted
-  size_eq : {size : ℕ} → size ≡ max file.size (off + len) → size ≡ max f.size (off + len)
-  size_eq is = is ∙ ap (λ (g : Inode). max g.size (off + len)) o.file_is
+  pub recorded_at : {w2 w3 : List ℕ} {size : ℕ} → Recorded w2 w3 i a b n size → Recorded w2 w3 i (side_page f off) (stage_page f off) (touched off len) size
+  recorded_at {w2} {w3} {size} r = at_file (λ x y z. Recorded w2 w3 i x y z size) r
 
-  pub recorded_at : {w2 w3 : List ℕ} {size : ℕ} → size ≡ max file.size (off + len) → Recorded w2 w3 i a b n size → Recorded w2 w3 i (side_page f off) (stage_page f off) (touched off len) (max f.size (off + len))
-  recorded_at {w2} {w3} is r = at_file (λ x y z. Recorded w2 w3 i x y z (max f.size (off + len))) (subst (λ (k : ℕ). Recorded w2 w3 i a b n k) (size_eq is) r)
+  pub settles_at : {w2 image : List ℕ} {size : ℕ} → SettlesRecorded w2 i a b n size image → SettlesRecorded w2 i (side_page f off) (stage_page f off) (touched off len) size image
+  settles_at {w2} {image} {size} r = at_file (λ x y z. SettlesRecorded w2 i x y z size image) r
 
-  pub settles_at : {w2 image : List ℕ} {size : ℕ} → size ≡ max file.size (off + len) → SettlesRecorded w2 i a b n size image → SettlesRecorded w2 i (side_page f off) (stage_page f off) (touched off len) (max f.size (off + len)) image
-  settles_at {w2} {image} is r = at_file (λ x y z. SettlesRecorded w2 i x y z (max f.size (off + len)) image) (subst (λ (k : ℕ). SettlesRecorded w2 i a b n k image) (size_eq is) r)
+  pub moments_at : {w2 : List ℕ} {mid told : Option History} {size : ℕ} → LeavesOnly mid told (SettlesRecorded w2 i a b n size) → LeavesOnly mid told (SettlesRecorded w2 i (side_page f off) (stage_page f off) (touched off len) size)
+  moments_at {w2} {mid} {told} {size} r = at_file (λ x y z. LeavesOnly mid told (SettlesRecorded w2 i x y z size)) r
 
-  pub moments_at : {w2 : List ℕ} {mid told : Option History} {size : ℕ} → size ≡ max file.size (off + len) → LeavesOnly mid told (SettlesRecorded w2 i a b n size) → LeavesOnly mid told (SettlesRecorded w2 i (side_page f off) (stage_page f off) (touched off len) (max f.size (off + len)))
-  moments_at {w2} {mid} {told} is r = at_file (λ x y z. LeavesOnly mid told (SettlesRecorded w2 i x y z (max f.size (off + len)))) (subst (λ (k : ℕ). LeavesOnly mid told (SettlesRecorded w2 i a b n k)) (size_eq is) r)
+  -- the size that a write drafts
+  pub write_total : {size : ℕ} → size ≡ max file.size (off + len) → size ≡ size_after w0 i off len
+  write_total is = is ∙ ap (λ (g : Inode). max g.size (off + len)) o.file_is
+
+  pub write_sized : {size : ℕ} → size ≡ max file.size (off + len) → IsSize w0 i off len given size
+  write_sized {size} is = subst (λ (k : ℕ). IsSize w0 i off len given k) (sym (write_total is)) (write_size given o.can)
 
   -- the record can be made
   pub can_record : {w2 : List ℕ} → Prepared w0 w2 a b n (edit_of file off len given) → CanRecord w2 i a b n file.size

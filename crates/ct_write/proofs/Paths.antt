@@ -1,5 +1,5 @@
 -- Cells on the paths of wants.
-use Rattle.std.proofs.Common.{◌≡◌, ◌≢◌, ℕ, zero, suc, ◌+◌, ◌-◌, ◌*◌, ◌/◌, ◌%◌, ◌^◌, ◌<◌, ◌≤◌, Bool, true, false, List, [], ◌∷◌, refl, sym, ap, subst, ◌∙◌, inl, inr, arith}
+use Rattle.std.proofs.Common.{◌≡◌, ◌≢◌, ℕ, zero, suc, ◌+◌, ◌-◌, ◌*◌, ◌/◌, ◌%◌, ◌^◌, ◌<◌, ◌≤◌, Bool, true, false, List, [], ◌∷◌, ◌++◌, refl, sym, ap, subst, ◌∙◌, inl, inr, arith}
 use Rattle.std.specs.Prelude.{◌||◌, ◌&&◌, ◌==◌, not}
 use Rattle.std.proofs.Math.Nat.{div-div-eq-div-mul, pow-succ', one-le-pow}
 use Rattle.std.proofs.lemmas.Nat.{pow-add}
@@ -73,7 +73,7 @@ three p q r e f g = rw (e, f, g) refl
 above_path : (d x : ℕ) (want : Want) → (x + 1) * (4096 * 512 ^ (4 - d)) ≤ want.at → is_on_path d x want ≡ false
 above_path d x want high = and_right _ _ (and_right _ _ (le-ltb want.at ((x + 1) * (4096 * 512 ^ (4 - d))) high))
 
-higher_path : (d x : ℕ) (want : Want) → 4 < d + want.height → is_on_path d x want ≡ false
+pub higher_path : (d x : ℕ) (want : Want) → 4 < d + want.height → is_on_path d x want ≡ false
 higher_path d x want high = and_left _ _ (lt-leb (d + want.height) 4 high)
 
 abbrev range_want : ℕ → ℕ → ℕ → Want
@@ -113,7 +113,7 @@ slot_number (suc (suc (suc zero))) x b n le from to low high = omega arith
 slot_number (suc (suc (suc (suc d)))) x b n le from to low high = absurd (omega arith)
 
 -- staged pages want cells of slot 2
-staged_slot : (b n d x : ℕ) → d ≤ 3 → 2 * 2 ^ 27 ≤ b → b + n ≤ 3 * 2 ^ 27 → is_wanted (pages_from b n) (suc d) x ≡ true → x / 512 ^ d ≡ 2
+pub staged_slot : (b n d x : ℕ) → d ≤ 3 → 2 * 2 ^ 27 ≤ b → b + n ≤ 3 * 2 ^ 27 → is_wanted (pages_from b n) (suc d) x ≡ true → x / 512 ^ d ≡ 2
 staged_slot b n d x le from to is = elim (cases_Bool (is_on_path (suc d) x (record { height = 0; at = b * 4096; len = n * 4096 }))) [
   | inl on ↦
       let two = and_parts _ _ (and_parts _ _ on).1 in
@@ -121,19 +121,23 @@ staged_slot b n d x le from to is = elim (cases_Bool (is_on_path (suc d) x (reco
   | inr off ↦ absurd (Rattle.std.proofs.lemmas.Bool.false≢true (sym (ap (λ t. t || false) off) ∙ is))
 ]
 
--- once the tables are made, what is missing of the staged pages is what is left
-pub missing_range : (old new : List ℕ) (a b n : ℕ) → 10 * 2 ^ 27 ≤ a → 1 ≤ n → 2 * 2 ^ 27 ≤ b → b + n ≤ 3 * 2 ^ 27 → ((d x : ℕ) → d ≤ 4 → is_wanted (few_wants a b n) d x ≡ false → page_at new d x ≡ page_at old d x)
-    → missing new (pages_from b n) + missing old (few_wants a b n) ≡ missing old (range_wants a b n)
-missing_range old new a b n low some from to cells =
-    missing_sum old new (few_wants a b n) (pages_from b n) (pages_from b n) (λ d one four. record { to = λ x. x; turns = turns_none (512 ^ d); each = λ x. each d x one four })
+-- once the tables are made, what is missing of wants in slot 2 is what is left
+pub missing_slot : (old new : List ℕ) (a b n : ℕ) (wants : List Want) → 10 * 2 ^ 27 ≤ a → 1 ≤ n → ((d x : ℕ) → d ≤ 3 → is_wanted wants (suc d) x ≡ true → x / 512 ^ d ≡ 2) → ((d x : ℕ) → d ≤ 4 → is_wanted (few_wants a b n) d x ≡ false → page_at new d x ≡ page_at old d x)
+    → missing new wants + missing old (few_wants a b n) ≡ missing old (few_wants a b n ++ wants)
+missing_slot old new a b n wants low some slot cells = missing_sum old new (few_wants a b n) wants wants (λ d one four. record { to = λ x. x; turns = turns_none (512 ^ d); each = λ x. each d x one four })
   where
-    each : (d x : ℕ) → 1 ≤ d → d ≤ 4 → (is_wanted (pages_from b n) d x && (page_at new d x == 0)) ≡ ((is_wanted (pages_from b n) d x && not (is_wanted (few_wants a b n) d x)) && (page_at old d x == 0))
+    each : (d x : ℕ) → 1 ≤ d → d ≤ 4 → (is_wanted wants d x && (page_at new d x == 0)) ≡ ((is_wanted wants d x && not (is_wanted (few_wants a b n) d x)) && (page_at old d x == 0))
     each zero x one four = absurd (omega arith)
-    each (suc d) x one four = elim (cases_Bool (is_wanted (pages_from b n) (suc d) x)) [
+    each (suc d) x one four = elim (cases_Bool (is_wanted wants (suc d) x)) [
       | inr f ↦ rw f refl
       | inl t ↦
-          let none : is_wanted (few_wants a b n) (suc d) x ≡ false = none_below a b n d x low some (omega arith) (omega (arith, staged_slot b n d x (omega arith) from to t)) in
+          let none : is_wanted (few_wants a b n) (suc d) x ≡ false = none_below a b n d x low some (omega arith) (omega (arith, slot d x (omega arith) t)) in
           ap (λ s. s && (page_at new (suc d) x == 0)) t
           ∙ ap (λ (k : ℕ). k == 0) (cells (suc d) x four none)
           ∙ sym (ap (λ s. (s && not (is_wanted (few_wants a b n) (suc d) x)) && (page_at old (suc d) x == 0)) t ∙ ap (λ s. not s && (page_at old (suc d) x == 0)) none)
     ]
+
+-- so it is of the staged pages
+pub missing_range : (old new : List ℕ) (a b n : ℕ) → 10 * 2 ^ 27 ≤ a → 1 ≤ n → 2 * 2 ^ 27 ≤ b → b + n ≤ 3 * 2 ^ 27 → ((d x : ℕ) → d ≤ 4 → is_wanted (few_wants a b n) d x ≡ false → page_at new d x ≡ page_at old d x)
+    → missing new (pages_from b n) + missing old (few_wants a b n) ≡ missing old (range_wants a b n)
+missing_range old new a b n low some from to cells = missing_slot old new a b n (pages_from b n) low some (λ d x le is. staged_slot b n d x le from to is) cells

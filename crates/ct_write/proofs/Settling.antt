@@ -18,45 +18,51 @@ use Rattle.ct_record.proofs.Settles.{same_refl, same_sym}
 use Rattle.ct_record.proofs.Under.{under_beside}
 use Rattle.ct_record.proofs.Whole.{words_then}
 use Rattle.ct_grow.proofs.Spared.{gives_named}
-use Rattle.ct_write.specs.Recorded.{IsBare, Recorded, SettlesRecorded}
-use Rattle.ct_write.proofs.Sizing.{record_bare, recorded_done}
+use Rattle.ct_write.specs.Recorded.{IsBare, SettlesOr}
+use Rattle.ct_write.proofs.Sizing.{record_bare}
 
--- the pairs of a write, or none where the device failed before they were drafted
-pub record Writing (was : List ℕ) (pairs : List Pair) (i a b n size : ℕ) : Type 0 where
+-- the pairs of a record of which R holds, or none where the device failed before they were drafted
+pub record Writing (was : List ℕ) (pairs : List Pair) (R : List ℕ → Type 0) : Type 0 where
   pub shut : IsShut was
   pub apart : AreApart pairs
   pub bare : (w : ℕ) → Named pairs w → IsBare was w
-  pub records : (pairs ≡ []) ⊎ Recorded was (with_pairs pairs was) i a b n size
+  pub records : (pairs ≡ []) ⊎ R (with_pairs pairs was)
+
+-- what is so of words is so of those that differ in the record alone
+abbrev pub IsStable : (List ℕ → List ℕ → Type 0) → Type 0
+IsStable R = (start changed done : List ℕ) → R start changed → SameOff InRecord done changed → R start done
 
 -- those of a draft
-pub writing : {D T E : Type 0} {bound : _} (result : Result T E) (dev : D) (first last : Draft D bound) (i a b n size : ℕ) → i ≤ 1048576 → draft_dev first ≡ dev → Drafts first last
-    → OnOk result (Recorded (words_under first) (drafted last) i a b n size) → OnOk result ((w : ℕ) → Named (pairs_of last) w → IsBare (words_under first) w) → OnOk result (count_of last ≤ 5111)
-    → (pairs : List Pair) × (Writing (bound.words dev) pairs i a b n size × OnOk result ((pairs_of last ≡ pairs) × (count_of last ≤ 5111)))
-writing {bound = bound} (Ok x) dev first last i a b n size low is drafts records bare few = (
+pub writing : {D T E : Type 0} {bound : _} (R : List ℕ → List ℕ → Type 0) → IsStable R → (result : Result T E) (dev : D) (first last : Draft D bound) → draft_dev first ≡ dev → Drafts first last
+    → OnOk result (R (words_under first) (drafted last)) → OnOk result ((w : ℕ) → Named (pairs_of last) w → IsBare (words_under first) w) → OnOk result (count_of last ≤ 5111)
+    → (pairs : List Pair) × (Writing (bound.words dev) pairs (R (bound.words dev)) × OnOk result ((pairs_of last ≡ pairs) × (count_of last ≤ 5111)))
+writing {bound = bound} R stable (Ok x) dev first last is drafts records bare few = (
   pairs_of last,
   (
     record {
       shut = (drafted_since dev first last is drafts).was_shut;
       apart = apart_of last;
       bare = λ w named. subst (λ d. IsBare (bound.words d) w) is (bare w named);
-      records = inr (recorded_done (ap (λ d. bound.words d) is) records (same_sym (words_then (drafted_since dev first last is drafts) (pairs_of last) (drafted last) (same_refl (drafted last)))) low);
+      records =
+          inr (subst (λ d. R (bound.words d) (with_pairs (pairs_of last) (bound.words dev))) is
+          (stable (words_under first) (drafted last) (with_pairs (pairs_of last) (bound.words dev)) records (same_sym (words_then (drafted_since dev first last is drafts) (pairs_of last) (drafted last) (same_refl (drafted last))))));
     },
     (refl, few),
   ),
 )
-writing (Err e) dev first last i a b n size low is drafts records bare few =
+writing R stable (Err e) dev first last is drafts records bare few =
     ([], (record { shut = (drafted_since dev first last is drafts).was_shut; apart = λ w named. absurd named; bare = λ w named. absurd named; records = inl refl }, tt))
 
 -- what is recorded once the record is complete
-pub recorded_end : {D S F T E : Type 0} {bound : _} (made : Result S F) (result : Result T E) (dev : D) (first last : Draft D bound) (done : List ℕ) (i a b n size : ℕ) → i ≤ 1048576 → draft_dev first ≡ dev → OnOk result (OnErr made ⊥)
-    → OnOk made (Recorded (words_under first) (drafted last) i a b n size) → OnOk result (SameOff InRecord done (drafted last)) → OnOk result (Recorded (bound.words dev) done i a b n size)
-recorded_end {bound = bound} made result dev first last done i a b n size low is ok records same =
-    let all = Recorded (words_under first) (drafted last) i a b n size in
-    ok_then (all × SameOff InRecord done (drafted last)) result (λ has. recorded_done (ap (λ d. bound.words d) is) has.0 has.1 low)
+pub recorded_end : {D S F T E : Type 0} {bound : _} (R : List ℕ → List ℕ → Type 0) → IsStable R → (made : Result S F) (result : Result T E) (dev : D) (first last : Draft D bound) (done : List ℕ) → draft_dev first ≡ dev → OnOk result (OnErr made ⊥)
+    → OnOk made (R (words_under first) (drafted last)) → OnOk result (SameOff InRecord done (drafted last)) → OnOk result (R (bound.words dev) done)
+recorded_end {bound = bound} R stable made result dev first last done is ok records same =
+    let all = R (words_under first) (drafted last) in
+    ok_then (all × SameOff InRecord done (drafted last)) result (λ has. subst (λ d. R (bound.words d) done) is (stable (words_under first) (drafted last) done has.0 has.1))
     (ok_both all (SameOff InRecord done (drafted last)) result (ok_drafted all made result ok records) same)
 
-module _ {was : List ℕ} {pairs : List Pair} {i a b n size : ℕ} (m : Writing was pairs i a b n size) {T E : Type 0} {start told : Option History} {now : List ℕ} {result : Result T E} (c : Concluded was start pairs 5111 now told result) where
-  image_recorded : (image : List ℕ) → HasFewPairs 5111 image → OpensOnly pairs image → SettlesToEither pairs was image → SettlesRecorded was i a b n size image
+module _ {was : List ℕ} {pairs : List Pair} {R : List ℕ → Type 0} (m : Writing was pairs R) {T E : Type 0} {start told : Option History} {now : List ℕ} {result : Result T E} (c : Concluded was start pairs 5111 now told result) where
+  image_recorded : (image : List ℕ) → HasFewPairs 5111 image → OpensOnly pairs image → SettlesToEither pairs was image → SettlesOr was R image
   image_recorded image few opens either = record {
     few = few;
     names = λ w named. elim opens [
@@ -67,15 +73,15 @@ module _ {was : List ℕ} {pairs : List Pair} {i a b n size : ℕ} (m : Writing 
       | inl none ↦ inl none
       | inr all ↦ elim m.records [
         | inl nothing ↦ inl (subst (λ (ps : List Pair). SettlesTo (with_pairs ps was) image) nothing all)
-        | inr records ↦ inr (record { after = with_pairs pairs was; recorded = records; shut = pairs_shut pairs was m.apart m.shut; settles = all })
+        | inr records ↦ inr (record { after = with_pairs pairs was; done = records; shut = pairs_shut pairs was m.apart m.shut; settles = all })
       ]
     ];
   }
 
-  pub ends_moments : LeavesOnly start told (SettlesRecorded was i a b n size)
-  ends_moments = weaker (SettlesRecorded was i a b n size) (λ image has. image_recorded image has.0 has.1.0 has.1.1) (both c.lawful (both c.opens c.any_moment))
+  pub ends_moments : LeavesOnly start told (SettlesOr was R)
+  ends_moments = weaker (SettlesOr was R) (λ image has. image_recorded image has.0 has.1.0 has.1.1) (both c.lawful (both c.opens c.any_moment))
 
-  pub ends_reads : SettlesRecorded was i a b n size now
+  pub ends_reads : SettlesOr was R now
   ends_reads = image_recorded now c.reads_lawful c.reads_opens c.reads
 
   pub ends_made : MakesOnly (λ word value. IsBare was word) start told

@@ -1,8 +1,12 @@
 -- One size becomes another.
 use Rattle.std.proofs.Common.{◌≡◌, ◌≢◌, ℕ, zero, suc, ◌+◌, ◌-◌, ◌*◌, ◌/◌, ◌%◌, ◌^◌, ◌<◌, ◌≤◌, ◌⊎◌, List, [], ◌∷◌, ◌++◌, refl, sym, ap, subst, ◌∙◌, inl, inr, arith}
 use Rattle.std.specs.Prelude.{All, length}
+use Rattle.std.proofs.lemmas.Bool.{lt-ltb, or_left}
 use Rattle.std.proofs.lemmas.List.Elements.{All-head, All-tail}
 use Rattle.ct_base.specs.Exchange.{Exchanged, HasTables, Outside}
+use Rattle.ct_base.specs.Inode.{inode}
+use Rattle.ct_base.specs.View.{view}
+use Rattle.ct_words.proofs.Shown.{little-shown}
 use Rattle.ct_base.specs.Settled.{Pair, Named}
 use Rattle.ct_base.specs.Walk.{word, word_in, byte, byte_in, page_at, AreTables}
 use Rattle.ct_base.specs.Words.{word_at, place_at, pairs_to, Rewrites}
@@ -52,6 +56,12 @@ sized_by {old} {new} {i} {at} {size} {values} fits r is are =
 pub sized_none : {img : List ℕ} {i was size : ℕ} → AreTables img → shown_word img (64 * i + 8) ≡ was → size ≡ was → Sized img img i size
 sized_none tables is same = record { tables = tables; cells = λ d x le. refl; is = is ∙ sym same; bytes = λ v lt off. refl; head = λ w lt. refl; size = refl }
 
+-- the inode has it
+pub sized_inode : {old new : List ℕ} {i size : ℕ} → Sized old new i size → i ≤ 1048576 → (inode (view new) i).size ≡ size
+sized_inode {new = new} {i = i} s few =
+    let at : 64 * i + 8 * 1 ≡ 64 * i + 8 = omega arith in
+    little-shown new (64 * i + 8 * 1) (omega arith) (or_left _ _ (lt-ltb (64 * i + 8 * 1) 1099511627776 (omega arith))) ∙ ap (shown_word new) at ∙ s.is
+
 -- a word of a page that is not exchanged stays
 pub exchanged_word : {old new : List ℕ} {a b n : ℕ} → Exchanged old new a b n → (v : ℕ) → Outside a b n (v / 4096) → page_at old 4 (v / 4096) ≢ 0 → word_at new v ≡ word_at old v
 unfolding word_at
@@ -91,7 +101,7 @@ named_append (p ∷ ps) qs w (inl here) = inl (inl here)
 named_append (p ∷ ps) qs w (inr later) = elim (named_append ps qs w later) [ inl first ↦ inl (inr first) | inr second ↦ inr second ]
 
 -- the words of an exchange are entries
-swap_entries : (img : List ℕ) (a b : ℕ) (ps : List (ℕ × ℕ)) → All (HasTables img a b) ps → (w : ℕ) → Named (swap_pairs img a b ps) w → IsEntry img w
+pub swap_entries : (img : List ℕ) (a b : ℕ) (ps : List (ℕ × ℕ)) → All (HasTables img a b) ps → (w : ℕ) → Named (swap_pairs img a b ps) w → IsEntry img w
 swap_entries img a b [] there w named = absurd named
 swap_entries img a b (piece ∷ ps) there w named =
     let here = All-head (HasTables img a b) piece ps there in
@@ -140,21 +150,20 @@ slot_maps {img} {now} {changed} {a} {b} {n} tables s e first second = record {
 pub recorded_by : {img mid last : List ℕ} {i a b n len : ℕ} → Exchanged img mid a b n → ((w : ℕ) → w < 512 → word mid w ≡ word img w) → Sized mid last i len → Recorded img last i a b n len
 recorded_by {mid = mid} e head sized = record { middle = mid; exchanged = e; head = head; sized = sized }
 
--- the record, once it is complete
-pub recorded_done : {img start changed done : List ℕ} {i a b n len : ℕ} → start ≡ img → Recorded start changed i a b n len → SameOff InRecord done changed → i ≤ 1048576 → Recorded img done i a b n len
-recorded_done {img} {start} {changed} {done} {i} {a} {b} {n} {len} is r same few =
+-- a size, once its record is complete
+pub sized_done : (i len : ℕ) (start changed done : List ℕ) → Sized start changed i len → SameOff InRecord done changed → Sized start done i len
+sized_done i len start changed done sized same =
     let beside = under_beside changed done same in
-    subst (λ (x : List ℕ). Recorded x done i a b n len) is (record {
-      middle = r.middle;
-      exchanged = r.exchanged;
-      head = r.head;
-      sized = record {
-        tables = beside_tables beside r.sized.tables;
-        cells = λ d x le. beside_cells beside d x ∙ r.sized.cells d x le;
-        is = ap (λ x. x % 2 ^ 64) (beside_words beside (64 * i + 8)) ∙ r.sized.is;
-        bytes = λ v lt off.
-            byte-word done v lt ∙ ap (λ x. x / 256 ^ (v % 4096 % 8) % 256) (beside_words beside (8 * (v / 8))) ∙ sym (byte-word changed v lt) ∙ r.sized.bytes v lt off;
-        head = λ w lt. beside.front w lt ∙ r.sized.head w lt;
-        size = beside.size ∙ r.sized.size;
-      };
-    })
+    record {
+      tables = beside_tables beside sized.tables;
+      cells = λ d x le. beside_cells beside d x ∙ sized.cells d x le;
+      is = ap (λ x. x % 2 ^ 64) (beside_words beside (64 * i + 8)) ∙ sized.is;
+      bytes = λ v lt off.
+          byte-word done v lt ∙ ap (λ x. x / 256 ^ (v % 4096 % 8) % 256) (beside_words beside (8 * (v / 8))) ∙ sym (byte-word changed v lt) ∙ sized.bytes v lt off;
+      head = λ w lt. beside.front w lt ∙ sized.head w lt;
+      size = beside.size ∙ sized.size;
+    }
+
+-- and the record of a write
+pub recorded_done : (i a b n len : ℕ) (start changed done : List ℕ) → Recorded start changed i a b n len → SameOff InRecord done changed → Recorded start done i a b n len
+recorded_done i a b n len start changed done r same = record { middle = r.middle; exchanged = r.exchanged; head = r.head; sized = sized_done i len r.middle changed done r.sized same }

@@ -1,6 +1,8 @@
 -- Tables are made on the file's side: nothing that is seen changes.
 use Rattle.std.proofs.Common.{◌≡◌, ◌≢◌, ℕ, suc, ◌+◌, ◌-◌, ◌*◌, ◌/◌, ◌%◌, ◌^◌, ◌<◌, ◌≤◌, List, [], ◌∷◌, zero, sym, ap, subst, ◌∙◌, inl, inr, arith}
 use Rattle.std.specs.Prelude.{All, Option, false, length}
+use Rattle.ct_base.specs.Exchange.{HasTables}
+use Rattle.ct_base.specs.Pieces.{pieces}
 use Rattle.ct_base.specs.Rules.{ArePlaced, IsMappedInParts}
 use Rattle.ct_base.specs.Settled.{IsShut, Named, Pair, settled}
 use Rattle.ct_base.specs.Spares.{SparesFiles}
@@ -127,32 +129,35 @@ module _ {w0 : List ℕ} (a b n : ℕ) (rest : IsResting w0) (low : 10 * 2 ^ 27 
       still : (image : List ℕ) → SeesSame w1 image → SameState w1 image → Crash (SameState w0) 0 image
       still image seen same = still_crash (seen.head 512 (omega arith) ∙ (made_shut g).0, seen.head 527 (omega arith) ∙ (made_shut g).1) (state_then (made_state g) same)
 
+  -- the tables of the file's side are there still
+  pub kept_met : {w1 w2 : List ℕ} → HasAll w1 (few_wants a b n) → SeesSame w1 w2 → AreMet w2 (few_wants a b n)
+  kept_met all seen zero x one four is none = absurd (omega arith)
+  kept_met {w1} all seen (suc d) x one four is none =
+      all_met w1 (few_wants a b n) (few_some a b n some) all (suc d) x one four is (sym (seen.cells d x (omega arith) (λ slot.
+      Rattle.std.proofs.lemmas.Bool.false≢true (sym (none_below a b n d x low some (omega arith) (omega (arith, slot))) ∙ is))) ∙ none)
+
+  pub prepared_with : {w1 w2 : List ℕ} {before after : FreePages} (edit : Edit) → Grown w0 w1 (few_wants a b n) before after → SeesSame w1 w2 → IsLaid w2 → All (HasTables w2 a b) (pieces a b n)
+      → (AreBytes edit → (j o : ℕ) → j < n → o < 4096 → byte w2 ((b + j) * 4096 + o) ≡ edited (view w1) edit ((a + j) * 4096 + o)) → length w2 ≡ length w1 → Prepared w0 w2 a b n edit
+  prepared_with edit g seen laid tables bytes size = record {
+    laid = laid;
+    seen = seen.bytes ∙ (made_alike g).bytes;
+    head = λ w lt. seen.head w (omega arith) ∙ g.low w (omega arith);
+    others = λ v lt away. seen.others v lt away ∙ g.bytes v lt;
+    pages = λ p away. seen.cells 3 p (omega arith) away ∙ made_page g p;
+    roots = λ k from to. seen.cells 0 k (omega arith) (λ slot. omega (arith, slot, from)) ∙ g.cells 1 k (omega arith) (none_below a b n 0 k low some (omega arith) (omega (arith, to)));
+    tables = tables;
+    bytes = λ are j o lt small. bytes are j o lt small ∙ ap (λ c. edited c edit ((a + j) * 4096 + o)) (made_alike g).bytes;
+    size = size ∙ g.size;
+  }
+
   pub prepared : {w1 w2 : List ℕ} {before after : FreePages} (edit : Edit) → Grown w0 w1 (few_wants a b n) before after → HasAll w1 (few_wants a b n) → a + n ≤ 2 ^ 36 → 2 * 2 ^ 27 ≤ b → b + n ≤ 3 * 2 ^ 27
       → SeesSame w1 w2 → IsLaid w2 → ((j : ℕ) → j < n → Holds w2 (b + j) (staged_words w1 edit (a + j)))
-      → (AreBytes edit → (j o : ℕ) → j < n → o < 4096 → Rattle.ct_base.specs.Walk.byte w2 ((b + j) * 4096 + o) ≡ edited (view w1) edit ((a + j) * 4096 + o))
-      → Rattle.std.specs.Prelude.length w2 ≡ Rattle.std.specs.Prelude.length w1 → Prepared w0 w2 a b n edit
+      → (AreBytes edit → (j o : ℕ) → j < n → o < 4096 → byte w2 ((b + j) * 4096 + o) ≡ edited (view w1) edit ((a + j) * 4096 + o)) → length w2 ≡ length w1 → Prepared w0 w2 a b n edit
   prepared {w1} {w2} edit g all first from to seen laid holds bytes size =
-      let met : AreMet w1 (few_wants a b n) = all_met w1 (few_wants a b n) (few_some a b n some) all in
-      record {
-        laid = laid;
-        seen = seen.bytes ∙ (made_alike g).bytes;
-        head = λ w lt. seen.head w (omega arith) ∙ g.low w (omega arith);
-        others = λ v lt away. seen.others v lt away ∙ g.bytes v lt;
-        pages = λ p away. seen.cells 3 p (omega arith) away ∙ made_page g p;
-        tables =
-            tables_there w2 a b n first (omega arith)
-            (few_met w2 a b n some (λ d x one four is. kept met d x one four is))
-            (pages_met w2 a b n (all_met w2 (record { height = 0; at = b * 4096; len = n * 4096 } ∷ []) (omega arith, tt) (has_pages, tt)));
-        bytes = λ are j o lt small. bytes are j o lt small ∙ ap (λ c. edited c edit ((a + j) * 4096 + o)) (made_alike g).bytes;
-        size = size ∙ g.size;
-      }
+      prepared_with edit g seen laid
+      (tables_there w2 a b n first (omega arith) (few_met w2 a b n some (kept_met all seen))
+      (pages_met w2 a b n (all_met w2 (record { height = 0; at = b * 4096; len = n * 4096 } ∷ []) (omega arith, tt) (has_pages, tt)))) bytes size
     where
-      kept : AreMet w1 (few_wants a b n) → AreMet w2 (few_wants a b n)
-      kept met zero x one four is none = absurd (omega arith)
-      kept met (suc d) x one four is none =
-          met (suc d) x one four is (sym (seen.cells d x (omega arith) (λ slot.
-          Rattle.std.proofs.lemmas.Bool.false≢true (sym (none_below a b n d x low some (omega arith) (omega (arith, slot))) ∙ is))) ∙ none)
-
       has_pages : (v : ℕ) → b * 4096 ≤ v → v < b * 4096 + n * 4096 → page_at w2 4 (v / 4096) ≢ 0
       has_pages v from_v to_v none = (holds (v / 4096 - b) (omega arith)).0 (ap (page_at w2 4) (omega arith) ∙ none)
 
@@ -178,3 +183,13 @@ module _ {w0 w1 : List ℕ} {start mid : Option History} {before after : FreePag
   pub pages_prepared : {w2 : List ℕ} (edit : Edit) → HasAll w1 wants → a + n ≤ 2 ^ 36 → 2 * 2 ^ 27 ≤ b → b + n ≤ 3 * 2 ^ 27 → SeesSame w1 w2 → IsLaid w2 → ((j : ℕ) → j < n → Holds w2 (b + j) (staged_words w1 edit (a + j)))
       → (AreBytes edit → (j o : ℕ) → j < n → o < 4096 → byte w2 ((b + j) * 4096 + o) ≡ edited (view w1) edit ((a + j) * 4096 + o)) → length w2 ≡ length w1 → Prepared w0 w2 a b n edit
   pages_prepared edit all = prepared a b n rest low some edit as_asked.grown (subst (HasAll w1) asked all)
+
+  pub tables_kept : {w2 : List ℕ} → HasAll w1 wants → SeesSame w1 w2 → AreMet w2 (few_wants a b n)
+  tables_kept all seen = kept_met a b n rest low some (subst (HasAll w1) asked all) seen
+
+  pub tables_view : view w1 ≡ view w0
+  tables_view = (made_alike a b n rest low some as_asked.grown).bytes
+
+  pub range_prepared : {w2 : List ℕ} (edit : Edit) → SeesSame w1 w2 → IsLaid w2 → All (HasTables w2 a b) (pieces a b n)
+      → (AreBytes edit → (j o : ℕ) → j < n → o < 4096 → byte w2 ((b + j) * 4096 + o) ≡ edited (view w1) edit ((a + j) * 4096 + o)) → length w2 ≡ length w1 → Prepared w0 w2 a b n edit
+  range_prepared edit = prepared_with a b n rest low some edit as_asked.grown

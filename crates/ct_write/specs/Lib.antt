@@ -1,3 +1,5 @@
+pub mod Lengthened
 pub mod Prepared
 pub mod Recorded
+pub mod Turned
 pub mod Written

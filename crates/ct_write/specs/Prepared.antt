@@ -1,5 +1,5 @@
 -- What is there before the record of a write.
-use Rattle.std.specs.Prelude.{◌≡◌, ◌≢◌, ℕ, ◌+◌, ◌*◌, ◌/◌, ◌^◌, ◌<◌, ◌++◌, All, List, length}
+use Rattle.std.specs.Prelude.{◌≡◌, ◌≢◌, ℕ, ◌+◌, ◌*◌, ◌/◌, ◌^◌, ◌<◌, ◌≤◌, ◌++◌, All, List, length}
 use Rattle.ct_base.specs.Exchange.{HasTables}
 use Rattle.ct_base.specs.Pieces.{pieces}
 use Rattle.ct_base.specs.View.{view}
@@ -22,6 +22,7 @@ pub record Prepared (old new : List ℕ) (a b n : ℕ) (edit : Edit) : Type 0 wh
   pub head : (w : ℕ) → w < 512 → word new w ≡ word old w
   pub pages : (p : ℕ) → p / 2 ^ 27 ≢ 2 → page_at new 4 p ≡ page_at old 4 p
   pub others : (v : ℕ) → v < 2 ^ 48 → v / 2 ^ 39 ≢ 2 → byte new v ≡ byte old v
+  pub roots : (k : ℕ) → 3 ≤ k → k < 10 → page_at new 1 k ≡ page_at old 1 k
   pub tables : All (HasTables new a b) (pieces a b n)
   pub bytes : AreBytes edit → (j o : ℕ) → j < n → o < 4096 → byte new ((b + j) * 4096 + o) ≡ edited (view old) edit ((a + j) * 4096 + o)
   pub size : length new ≡ length old

@@ -42,16 +42,20 @@ pub record CanRecord (img : List ℕ) (i a b n len : ℕ) : Type 0 where
   pub tables : All (HasTables img a b) (pieces a b n)
   pub few : length (pieces a b n) ≤ 2555
 
--- the image settles to words with all of the record
-pub record AfterRecord (words : List ℕ) (i a b n size : ℕ) (image : List ℕ) : Type 0 where
+-- the image settles to words with closed gates of which this holds
+pub record SettlesAfter (Done : List ℕ → Type 0) (image : List ℕ) : Type 0 where
   pub after : List ℕ
-  pub recorded : Recorded words after i a b n size
+  pub done : Done after
   pub shut : IsShut after
   pub settles : SettlesTo after image
 
 -- The record is lawful and has few pairs, the open ones name bare words, and the image settles to the words without it or
 -- with all of it.
-pub record SettlesRecorded (words : List ℕ) (i a b n size : ℕ) (image : List ℕ) : Type 0 where
+pub record SettlesOr (words : List ℕ) (Done : List ℕ → Type 0) (image : List ℕ) : Type 0 where
   pub few : HasFewPairs 5111 image
   pub names : (w : ℕ) → Named (open_pairs image) w → IsBare words w
-  pub to : SettlesTo words image ⊎ AfterRecord words i a b n size image
+  pub to : SettlesTo words image ⊎ SettlesAfter Done image
+
+-- the same of the record of a write
+abbrev pub SettlesRecorded : List ℕ → ℕ → ℕ → ℕ → ℕ → ℕ → List ℕ → Type 0
+SettlesRecorded words i a b n size image = SettlesOr words (λ after. Recorded words after i a b n size) image

@@ -3,8 +3,6 @@ use Rattle.std.specs.Prelude.{◌≡◌, ◌≢◌, ℕ, ◌+◌, ◌*◌, ◌/�
 use Rattle.ct_base.specs.declared.inode.Inode.{Inode}
 use Rattle.ct_base.specs.Inode.{inode, IsLive, part_bytes}
 use Rattle.ct_base.specs.Plan.{stage, touched}
-use Rattle.ct_base.specs.Settled.{IsShut}
-use Rattle.ct_base.specs.State.{SameState}
 use Rattle.ct_base.specs.View.{view, inode_count}
 use Rattle.ct_base.specs.Walk.{word, byte, page_at}
 use Rattle.ct_grow.specs.Grown.{IsReady}
@@ -12,7 +10,7 @@ use Rattle.ct_stage.specs.declared.edit.Edit.{Edit}
 use Rattle.ct_stage.specs.declared.edit.Given.{Given}
 use Rattle.ct_stage.specs.declared.edit.Given.TheVariants.{Same, Listed}
 use Rattle.ct_stage.specs.Edited.{edited}
-use Rattle.ct_state.specs.Alike.{IsWhole}
+use Rattle.ct_write.specs.Turned.{IsStateOr}
 use Rattle.ct_write.specs.declared.data.Data.{Data}
 use Rattle.ct_write.specs.declared.data.Data.TheVariants.{Bytes, Fill}
 
@@ -50,25 +48,28 @@ pub record CanWrite (img : List ℕ) (i off len : ℕ) : Type 0 where
   pub some : 1 ≤ len
   pub fits : off + len ≤ part_bytes (inode (view img) i).level
 
--- File i has the bytes of a write from an offset on, and no other byte that is looked at is another, but those of its size.
-pub record IsWritten (old new : List ℕ) (i off len : ℕ) (given : Given) : Type 0 where
+-- File i has new bytes from an offset of its partition on and this size, and no other byte that is looked at is another, but
+-- those of its size.
+pub record IsEdited (old new : List ℕ) (i off len : ℕ) (given : Given) (total : ℕ) : Type 0 where
   pub bytes : (v : ℕ) → (v < 64 * i + 8) ⊎ (64 * i + 16 ≤ v) → view new v ≡ edited (view old) (edit_of (inode (view old) i) off len given) v
-  pub size : (inode (view new) i).size ≡ max (inode (view old) i).size (off + len)
+  pub size : (inode (view new) i).size ≡ total
   pub inodes : inode_count new ≡ inode_count old
   -- off the touched pages and off root slot 2 each walk stays
   pub pages : (p : ℕ) → p / 2 ^ 27 ≢ 2 → (p < side_page (inode (view old) i) off) ⊎ (side_page (inode (view old) i) off + touched off len ≤ p) → page_at new 4 p ≡ page_at old 4 p
   -- and so does each byte of root slots 3 to 9
   pub staged : (v : ℕ) → 3 * 2 ^ 39 ≤ v → v < 10 * 2 ^ 39 → byte new v ≡ byte old v
+  pub roots : (k : ℕ) → 3 ≤ k → k < 10 → page_at new 1 k ≡ page_at old 1 k
   pub head : (w : ℕ) → w < 512 → word new w ≡ word old w
+  pub length : length new ≡ length old
 
--- the image settles to the state of words with the write
-pub record HasWritten (words : List ℕ) (i off len : ℕ) (given : Given) (image : List ℕ) : Type 0 where
-  pub after : List ℕ
-  pub written : IsWritten words after i off len given
-  pub shut : IsShut after
-  pub whole : IsWhole after
-  pub state : SameState after image
+-- a write gives the file the size in which it ends, where that is more
+abbrev pub size_after : List ℕ → ℕ → ℕ → ℕ → ℕ
+size_after img i off len = max (inode (view img) i).size (off + len)
+
+-- file i has the bytes of a write from an offset on
+abbrev pub IsWritten : List ℕ → List ℕ → ℕ → ℕ → ℕ → Given → Type 0
+IsWritten old new i off len given = IsEdited old new i off len given (size_after old i off len)
 
 -- the image settles to the state before the write or after it
 abbrev pub IsBeforeOrAfter : List ℕ → ℕ → ℕ → ℕ → Given → List ℕ → Type 0
-IsBeforeOrAfter words i off len given image = SameState words image ⊎ HasWritten words i off len given image
+IsBeforeOrAfter words i off len given image = IsStateOr words (λ after. IsWritten words after i off len given) image

@@ -6,10 +6,14 @@
 #![tactic(auto)]
 
 mod data;
+mod longer;
 mod prepare;
 mod record;
 mod spot;
 mod whole;
 
 pub use data::{Data, len_of};
+pub use longer::lengthen;
+pub use record::write_now;
+pub use spot::{page_of, staged_page, touched};
 pub use whole::commit_write;

@@ -16,7 +16,7 @@ use ct_swap::pswap;
 use ct_words::put_words;
 
 // Drafts the size of an inode, where it becomes another.
-fn put_size<D: Pm>(draft: &mut Draft<D>, inode: u64, was: u64, size: u64) -> Result<(), PmFault>
+pub fn put_size<D: Pm>(draft: &mut Draft<D>, inode: u64, was: u64, size: u64) -> Result<(), PmFault>
     requires tables { AreTables (words_under draft.old) }
     requires maps { MapsAlike 0 (words_under draft.old) (drafted draft.old) }
     requires to { inode ≤ 1048576 }
@@ -26,6 +26,7 @@ fn put_size<D: Pm>(draft: &mut Draft<D>, inode: u64, was: u64, size: u64) -> Res
     ensures sized { OnOk result (Sized (drafted draft.old) (drafted draft.new) inode size) }
     ensures bare { OnOk result ((w : ℕ) → Named (pairs_of draft.new) w → Named (pairs_of draft.old) w ⊎ IsBare (words_under draft.old) w) }
     ensures more { OnOk result (count_of draft.old ≤ count_of draft.new) }
+    ensures some { OnOk result (size ≢ was → 0 < count_of draft.new) }
     ensures count { OnOk result (count_of draft.new ≤ count_of draft.old + 1) }
     ensures drafts { Drafts draft.old draft.new }
     ensures cause { HasCause (faults_under draft.old) (faults_under draft.new) result }

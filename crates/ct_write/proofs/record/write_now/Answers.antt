@@ -4,14 +4,16 @@ use Rattle.ct_base.specs.Settled.{Pair}
 use Rattle.ct_record.specs.Record.{Concluded}
 use Rattle.ct_record.specs.Seen.{count_of, device_behind, pairs_of}
 use Rattle.ct_record.proofs.Ended.{drafted_since}
+use Rattle.ct_write.specs.Recorded.{Recorded}
+use Rattle.ct_write.proofs.Sizing.{recorded_done}
 use Rattle.ct_write.proofs.Settling.{Writing, ends_made, ends_moments, ends_reads, recorded_end, writing}
 use Rattle.ct_write.proofs.record.write_now.Given.{Over}
 use Rattle.ct_write.proofs.record.write_now.Goals as goal
 
 module _ (g : Over) (c : goal.After-conclude g) where
-  made : (pairs : List Pair) × (Writing (g.D.Pm.words c.args.dev) pairs c.args.inode c.args.a c.args.b c.args.n c.args.size × OnOk c.draft_write-drafted.result ((pairs_of c.draft_write-drafted.new.draft ≡ pairs) × (count_of c.draft_write-drafted.new.draft ≤ 5111)))
+  made : (pairs : List Pair) × (Writing (g.D.Pm.words c.args.dev) pairs (λ after. Recorded (g.D.Pm.words c.args.dev) after c.args.inode c.args.a c.args.b c.args.n c.args.size) × OnOk c.draft_write-drafted.result ((pairs_of c.draft_write-drafted.new.draft ≡ pairs) × (count_of c.draft_write-drafted.new.draft ≤ 5111)))
   made =
-      writing c.draft_write-drafted.result c.args.dev c.begin-draft.result c.draft_write-drafted.new.draft c.args.inode c.args.a c.args.b c.args.n c.args.size c.requires.can.to (c.begin-draft.ensures.dev ∙ c.of.ensures)
+      writing (λ start after. Recorded start after c.args.inode c.args.a c.args.b c.args.n c.args.size) (recorded_done c.args.inode c.args.a c.args.b c.args.n c.args.size) c.draft_write-drafted.result c.args.dev c.begin-draft.result c.draft_write-drafted.new.draft (c.begin-draft.ensures.dev ∙ c.of.ensures)
       c.draft_write-drafted.ensures.drafts c.draft_write-drafted.ensures.recorded c.draft_write-drafted.ensures.bare c.draft_write-drafted.ensures.few
 
   ends : Concluded (g.D.Pm.words c.args.dev) (g.D.Pm.told c.args.dev) made.0 5111 (g.D.Pm.words (device_behind c.conclude.result)) (g.D.Pm.told (device_behind c.conclude.result)) c.conclude.result
@@ -21,7 +23,7 @@ module _ (g : Over) (c : goal.After-conclude g) where
 
 pub returns-clause-recorded : goal.returns-clause-recorded
 returns-clause-recorded g c =
-    recorded_end c.draft_write-drafted.result c.conclude.result c.args.dev c.begin-draft.result c.draft_write-drafted.new.draft (g.D.Pm.words (device_behind c.conclude.result)) c.args.inode c.args.a c.args.b c.args.n c.args.size c.requires.can.to
+    recorded_end (λ start after. Recorded start after c.args.inode c.args.a c.args.b c.args.n c.args.size) (recorded_done c.args.inode c.args.a c.args.b c.args.n c.args.size) c.draft_write-drafted.result c.conclude.result c.args.dev c.begin-draft.result c.draft_write-drafted.new.draft (g.D.Pm.words (device_behind c.conclude.result))
     (c.begin-draft.ensures.dev ∙ c.of.ensures) c.conclude.ensures.done c.draft_write-drafted.ensures.recorded c.conclude.ensures.words
 
 pub returns-clause-shut : goal.returns-clause-shut

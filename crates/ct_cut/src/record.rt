@@ -1,0 +1,67 @@
+// The record of a cut to nothing.
+ghost use Rattle.std.specs.Prelude.{◌≡◌, ◌≢◌, ℕ, ◌*◌, ◌/◌, ◌<◌, ◌≤◌, [], OnOk};
+ghost use Rattle.ct_base.specs.Causes.{HasCause};
+ghost use Rattle.ct_base.specs.Inode.{inode as inode_at};
+ghost use Rattle.ct_base.specs.Settled.{IsShut, Named};
+ghost use Rattle.ct_base.specs.View.{view};
+ghost use Rattle.ct_base.specs.Walk.{page_at, AreTables};
+ghost use Rattle.ct_cut.specs.Emptied.{Emptied};
+ghost use Rattle.ct_cut.specs.GivenUp.{CanGiveUp};
+ghost use Rattle.ct_pm.specs.Device.{LeavesOnly, MakesOnly, NothingPending};
+ghost use Rattle.ct_record.specs.Seen.{Drafts, count_of, device_behind, drafted, faults_under, pairs_of, words_under};
+ghost use Rattle.ct_write.specs.Recorded.{IsBare, SettlesOr};
+
+use crate::draft::give_up;
+use ct_inode::place;
+use ct_pm::{Pm, PmFault};
+use ct_record::{Broken, Draft, Idle, conclude};
+use ct_words::put_words;
+
+/// The level of an inode that has no partition.
+const NO_PART: u64 = 15;
+
+// Drafts that a file has no bytes and no partition.
+fn draft_empty<D: Pm>(draft: &mut Draft<D>, inode: u64) -> Result<(), PmFault>
+    requires tables { AreTables (words_under draft.old) }
+    requires from { 1 ≤ inode }
+    requires to { inode ≤ 1048576 }
+    requires there { page_at (words_under draft.old) 4 (64 * inode / 4096) ≢ 0 }
+    requires can { CanGiveUp (words_under draft.old) (inode_at (view (words_under draft.old)) inode) }
+    requires none { pairs_of draft.old ≡ [] }
+    requires count { count_of draft.old ≡ 0 }
+    ensures emptied { OnOk result (Emptied (words_under draft.old) (drafted draft.new) inode) }
+    ensures bare { OnOk result ((w : ℕ) → Named (pairs_of draft.new) w → IsBare (words_under draft.old) w) }
+    ensures some { OnOk result (0 < count_of draft.new) }
+    ensures few { OnOk result (count_of draft.new ≤ 5111) }
+    ensures drafts { Drafts draft.old draft.new }
+    ensures cause { HasCause (faults_under draft.old) (faults_under draft.new) result }
+{
+    let words = [0, 0, NO_PART];
+    put_words(draft, place(inode).get() + 8, &words)?;
+    give_up(draft, inode)?;
+    Ok(())
+}
+
+// The record by itself.
+pub fn empty_now<D: Pm>(dev: D, inode: u64) -> Result<D, Broken<D>>
+    requires tables { AreTables (D.words dev) }
+    requires shut { IsShut (D.words dev) }
+    requires settled { NothingPending (D.told dev) }
+    requires from { 1 ≤ inode }
+    requires to { inode ≤ 1048576 }
+    requires there { page_at (D.words dev) 4 (64 * inode / 4096) ≢ 0 }
+    requires can { CanGiveUp (D.words dev) (inode_at (view (D.words dev)) inode) }
+    ensures emptied { OnOk result (Emptied (D.words dev) (D.words (device_behind result)) inode) }
+    ensures shut { OnOk result (IsShut (D.words (device_behind result))) }
+    ensures settled { OnOk result (NothingPending (D.told (device_behind result))) }
+
+    // A crash at any moment leaves a lawful record of few pairs, and settles to the words before it or after it.
+    ensures any_moment { LeavesOnly (D.told dev) (D.told (device_behind result)) (SettlesOr (D.words dev) (λ after. Emptied (D.words dev) after inode)) }
+    ensures reads { SettlesOr (D.words dev) (λ after. Emptied (D.words dev) after inode) (D.words (device_behind result)) }
+    ensures made { MakesOnly (λ word value. IsBare (D.words dev) word) (D.told dev) (D.told (device_behind result)) }
+    ensures cause { HasCause (D.faults dev) (D.faults (device_behind result)) result }
+{
+    let mut draft = Draft::begin(Idle::of(dev));
+    let drafted = draft_empty(&mut draft, inode);
+    conclude(draft, drafted)
+}

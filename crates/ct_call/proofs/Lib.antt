@@ -1,0 +1,14 @@
+pub mod Chosen
+pub mod Enlarged
+pub mod FilePages
+pub mod Landed
+pub mod Neutral
+pub mod Paged
+pub mod Pairs
+pub mod Resting
+pub mod Roomed
+pub mod Rooms
+pub mod Spaced
+pub mod Spaces
+pub mod Turned
+pub mod Vacant

@@ -1,0 +1,9 @@
+pub mod Answers
+pub mod Calls
+pub mod Landing
+pub mod Mounted
+pub mod NotMounted
+pub mod Placed
+pub mod Plans
+pub mod Rooms
+pub mod Seen

@@ -1,0 +1,17 @@
+pub mod Enlarged
+pub mod Entered
+pub mod Entering
+pub mod EntryPlans
+pub mod EntryRecord
+pub mod EntryRoom
+pub mod Lasting
+pub mod Named
+pub mod Numbers
+pub mod Offered
+pub mod Places
+pub mod Placing
+pub mod Planned
+pub mod Slotted
+pub mod Spared
+pub mod Spotting
+pub mod Wanted

@@ -1,0 +1,5 @@
+pub mod Entry
+pub mod Landing
+pub mod Makes
+pub mod Plans
+pub mod Spots

@@ -1,0 +1,5 @@
+pub mod Fresh
+pub mod Magic
+pub mod Moments
+pub mod Out
+pub mod Runs

@@ -1,0 +1,5 @@
+pub mod Filling
+pub mod Listed
+pub mod Looking
+pub mod Peeking
+pub mod Reading

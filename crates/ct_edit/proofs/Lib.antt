@@ -1,0 +1,11 @@
+pub mod Finding
+pub mod Growths
+pub mod Longer
+pub mod Opened
+pub mod Preparing
+pub mod Resized
+pub mod Rewritten
+pub mod Shifted
+pub mod Shorter
+pub mod Told
+pub mod Widened

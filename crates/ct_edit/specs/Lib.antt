@@ -1,0 +1,4 @@
+pub mod Changed
+pub mod Edits
+pub mod Found
+pub mod Planned

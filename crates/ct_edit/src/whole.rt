@@ -1,0 +1,165 @@
+// A call on a file: it is found, planned and refused without a step, and then carried out.
+ghost use Rattle.std.specs.Prelude.{◌≡◌, ◌≢◌, ◌↔◌, ℕ, ◌+◌, ◌^◌, ◌≤◌, length, Some, Err, IfOk, IsSomeAnd, IsTrue, OnOk};
+ghost use Rattle.ct_base.specs.Causes.{HasCause};
+ghost use Rattle.ct_base.specs.Free.{HasFreePages};
+ghost use Rattle.ct_base.specs.Inode.{IsLive, inode as inode_at};
+ghost use Rattle.ct_base.specs.Settled.{HasPages};
+ghost use Rattle.ct_base.specs.View.{inode_count, view};
+ghost use Rattle.ct_base.specs.Wants.{missing};
+ghost use Rattle.ct_frames.specs.Agrees.{Agrees};
+ghost use Rattle.ct_pm.specs.Device.{NothingPending};
+ghost use Rattle.ct_pm.specs.Phase.{Phase};
+ghost use Rattle.ct_record.specs.Seen.{device_behind};
+ghost use Rattle.ct_tree.specs.Lands.{files};
+ghost use Rattle.ct_tree.specs.Tree.{Tree};
+ghost use Rattle.ct_call.specs.Answers.{IsPrepared};
+ghost use Rattle.ct_call.specs.Calls.{Does, StandsFor};
+ghost use Rattle.ct_call.specs.Mounted.{IsAtRest};
+ghost use Rattle.ct_call.specs.Placed.{IsMoved, Places};
+ghost use Rattle.ct_call.specs.Plans.{Fits, Plans, level_of};
+ghost use Rattle.ct_call.specs.Seen.{ready_in};
+ghost use Rattle.ct_edit.specs.Changed.{Changes, ChangesOrNot};
+ghost use Rattle.ct_edit.specs.Edits.{IsReplaced, edit_op, task_change, task_end, task_of as task_by, task_plan as plan_of_task};
+ghost use Rattle.ct_edit.specs.Found.{IsFileAt};
+ghost use Rattle.ct_edit.specs.Planned.{CanPlan};
+
+use crate::edit::{Edit, Task, task_of};
+use crate::file::find_file;
+use crate::plan::{truncate_plan, write_plan};
+use crate::truncate::resize_file;
+use crate::write::write_file;
+use ct_base::Inode;
+use ct_call::{CallPlan, Failed, FsError, Mounted, State, check_space};
+use ct_frames::Frames;
+use ct_pm::Pm;
+use ct_record::Broken;
+use ct_tree::Refusal;
+use ct_write::len_of;
+
+/// The most bytes that a file may have.
+const FILE_LIMIT: u64 = 549_755_813_888;
+
+// Whether a file may end there.
+fn is_within(task: Task<'_>) -> bool
+    ensures { IsTrue result ↔ (task_end task.entry ≤ 2 ^ 39) }
+{
+    match task {
+        Task::Write { off, what } => off <= FILE_LIMIT && len_of(what) <= FILE_LIMIT - off,
+        Task::Resize { len } => len <= FILE_LIMIT,
+    }
+}
+
+// The plan for a file.
+fn task_plan<D: Pm>(dev: &D, inode: Inode, task: Task<'_>) -> CallPlan
+    requires can { CanPlan (D.words dev.now) inode }
+    requires within { task_end task ≤ 2 ^ 39 }
+    ensures { Plans (D.words dev.now) (plan_of_task (view (D.words dev.now)) (inode_count (D.words dev.now)) inode task.entry) result }
+{
+    match task {
+        Task::Write { off, what } => write_plan(dev, inode, off, len_of(what)),
+        Task::Resize { len } => truncate_plan(dev, inode, len),
+    }
+}
+
+// The file of a call by its number, what is done to it, and what that needs. Nothing is stored.
+fn prepare<'e, D: Pm>(
+    dev: &D,
+    frames: &Frames,
+    path: &[u8],
+    edit: Edit<'e>,
+) -> Result<(u64, Task<'e>, CallPlan), Refusal>
+    requires rest { IsAtRest (D.words dev.now) }
+    requires agrees { Agrees (D.words dev.now) frames.now }
+    ensures answer { (t : Tree) → StandsFor (D.words dev.now) t → IsPrepared (D.words dev.now) t (edit_op path.now edit.entry) result }
+    ensures file { IfOk result (λ found. IsFileAt (D.words dev.now) path.now found.0 (inode_at (view (D.words dev.now)) found.0)) }
+    ensures task { IfOk result (λ found. found.1 ≡ task_by edit.entry (inode_at (view (D.words dev.now)) found.0).size) }
+    ensures within { IfOk result (λ found. task_end found.1 ≤ 2 ^ 39) }
+    ensures plan { IfOk result (λ found. Plans (D.words dev.now)
+        (plan_of_task (view (D.words dev.now)) (inode_count (D.words dev.now)) (inode_at (view (D.words dev.now)) found.0) found.1) found.2) }
+    ensures fits { IfOk result (λ found. Fits (D.words dev.now) frames.now found.2) }
+    ensures counted { OnOk result ((count : ℕ) → HasFreePages (D.words dev.now) count → count ≡ length frames.now.free) }
+{
+    let (number, inode) = match find_file(dev, path) {
+        Ok(file) => file,
+        Err(refusal) => return Err(refusal),
+    };
+    let task = task_of(edit, inode.size);
+    if !is_within(task) {
+        return Err(Refusal::TooBig);
+    }
+    let plan = task_plan(dev, inode, task);
+    match check_space(dev, frames, &plan) {
+        Ok(()) => Ok((number, task, plan)),
+        Err(refusal) => Err(refusal),
+    }
+}
+
+// Does it to the file by its plan: the file grows where it has to, and then the change is one record.
+fn carry_out<D: Pm>(
+    dev: D,
+    frames: &mut Frames,
+    file: u64,
+    plan: &CallPlan,
+    task: Task<'_>,
+) -> Result<D, Broken<D>>
+    requires rest { IsAtRest (D.words dev) }
+    requires agrees { Agrees (D.words dev) frames.old }
+    requires settled { NothingPending (D.told dev) }
+    requires live { IsLive (view (D.words dev)) (inode_count (D.words dev)) file }
+    requires kind { (inode_at (view (D.words dev)) file).kind ≡ 1 }
+    requires within { task_end task ≤ 2 ^ 39 }
+    requires plan { Plans (D.words dev) (plan_of_task (view (D.words dev)) (inode_count (D.words dev)) (inode_at (view (D.words dev)) file) task) plan.now }
+    requires fits { Fits (D.words dev) frames.old plan.now }
+
+    ensures changes { OnOk result (Changes (files (D.words dev)) (files (D.words (device_behind result))) file (task_change task.entry)) }
+    ensures moved { OnOk result ((level : ℕ) → level_of plan.now.growth ≡ Some level → IsMoved (IsReplaced task.entry) (D.words dev) (D.words (device_behind result)) file level) }
+    ensures taken { OnOk result (length frames.old.free ≤ length frames.new.free + missing (D.words dev) plan.now.wants) }
+    ensures counted { OnOk result (inode_count (D.words (device_behind result)) ≡ inode_count (D.words dev)) }
+    ensures rest { OnOk result (IsAtRest (D.words (device_behind result))) }
+    ensures agrees { OnOk result (Agrees (D.words (device_behind result)) frames.new) }
+    ensures settled { OnOk result (NothingPending (D.told (device_behind result))) }
+
+    // A crash at any moment lands on the objects as they were, or with the change.
+    ensures phase { Phase (ChangesOrNot (files (D.words dev)) file (task_change task.entry)) 5111 (D.told dev) (D.told (device_behind result)) (D.words (device_behind result)) }
+    ensures pages { HasPages (D.words (device_behind result)) }
+    ensures cause { HasCause (D.faults dev) (D.faults (device_behind result)) result }
+{
+    match task {
+        Task::Write { off, what } => write_file(dev, frames, file, plan, off, what),
+        Task::Resize { len } => resize_file(dev, frames, file, plan, len),
+    }
+}
+
+/// Changes the bytes of the file at a path: it writes, fills, appends or sets the length. To write no bytes changes nothing,
+/// wherever they begin.
+pub fn edit_in<D: Pm>(
+    mounted: Mounted<D>,
+    path: &[u8],
+    edit: Edit<'_>,
+) -> (State<D>, Result<(), FsError>)
+    ensures does { (t : Tree) → StandsFor (D.words mounted.dev) t → Does mounted t (edit_op path.now edit.entry) (Some result.0) result.1 }
+    ensures places { OnOk result.1 (IsSomeAnd (ready_in (Some result.0)) (λ now. Places (D.words mounted.dev) (D.words now.dev) (edit_op path.now edit.entry))) }
+    ensures alive { result.1 ≢ Err FsError.Dead }
+{
+    let Mounted { dev, mut frames } = mounted;
+    let (file, task, plan) = match prepare(&dev, &frames, path, edit) {
+        Ok(found) => found,
+        Err(refusal) => {
+            return (
+                State::Ready(Mounted { dev, frames }),
+                Err(FsError::Refused(refusal)),
+            );
+        }
+    };
+    match carry_out(dev, &mut frames, file, &plan, task) {
+        Ok(dev) => {
+            // Not the count is wanted, but what its contract says: the free pages are a list that can be counted.
+            let _ = frames.free();
+            (State::Ready(Mounted { dev, frames }), Ok(()))
+        }
+        Err(broken) => {
+            let Broken { dev } = broken;
+            (State::Dead(Failed { dev }), Err(FsError::Fault))
+        }
+    }
+}

@@ -1,0 +1,9 @@
+pub mod Changed
+pub mod Contents
+pub mod Standing
+pub mod Ruled
+pub mod Recording
+pub mod Carrying
+pub mod Finding
+pub mod Preparing
+pub mod Told

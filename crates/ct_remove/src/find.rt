@@ -1,0 +1,110 @@
+// The entry to which a path leads.
+ghost use Rattle.std.specs.Prelude.{◌≡◌, ◌≢◌, ℕ, [], ◌∷◌, Some, IfOk};
+ghost use Rattle.ct_base.specs.Inode.{inode as inode_at};
+ghost use Rattle.ct_base.specs.View.{view};
+ghost use Rattle.ct_dir.specs.Directory.{IsReadable, dir_of};
+ghost use Rattle.ct_tree.specs.Checks.{Passes};
+ghost use Rattle.ct_tree.specs.Lands.{files};
+ghost use Rattle.ct_tree.specs.Resolve.{IsDir};
+ghost use Rattle.ct_tree.specs.Step.{refusal};
+ghost use Rattle.ct_tree.specs.Tree.{Tree};
+ghost use Rattle.ct_call.specs.Calls.{StandsFor};
+ghost use Rattle.ct_call.specs.Mounted.{IsAtRest};
+ghost use Rattle.ct_remove.specs.Found.{EntryAnswers, IsEntryAt, IsFit, IsLeaf};
+ghost use Rattle.ct_remove.specs.Leaves.{leave_op};
+
+use ct_base::Inode;
+use ct_dir::{find, next_after};
+use ct_enter::Kind;
+use ct_inode::get;
+use ct_path::{parent_of, refusal_of};
+use ct_pm::Pm;
+use ct_tree::Refusal;
+
+/// The kind of a directory.
+const DIRECTORY: u64 = 2;
+
+/// An entry: the directory in which it is, the offset of its slot there, and the inode to which it leads.
+#[derive(Clone, Copy, Debug, PartialEq, Eq)]
+pub struct Entry {
+    pub dir: u64,
+    pub offset: u64,
+    pub number: u64,
+}
+
+/// The entry to which a path other than `/` leads, or why it leads to none.
+pub fn find_entry<D: Pm>(dev: &D, path: &[u8]) -> Result<Entry, Refusal>
+    requires rest { IsAtRest (D.words dev.now) }
+    requires below { path.now ≢ 47 ∷ [] }
+    ensures answer { (t : Tree) → StandsFor (D.words dev.now) t → EntryAnswers (D.words dev.now) path.now t result }
+    ensures entry { IfOk result (λ e. IsEntryAt (D.words dev.now) path.now e) }
+{
+    let (dir, name) = match parent_of(dev, path) {
+        Ok(found) => found,
+        Err(fault) => return Err(refusal_of(fault)),
+    };
+    match find(dev, get(dev, dir), name) {
+        Some(found) => Ok(Entry {
+            dir,
+            offset: found.offset,
+            number: found.inode,
+        }),
+        None => Err(Refusal::NotFound),
+    }
+}
+
+/// Whether an object may go by a call for a kind.
+pub fn check_kind<D: Pm>(dev: &D, inode: Inode, kind: Kind) -> Result<(), Refusal>
+    requires { inode.kind ≡ 2 → IsReadable (D.words dev.now) inode }
+    ensures { IsFit (dir_of (D.words dev.now) inode) kind result }
+{
+    match kind {
+        Kind::File => {
+            if inode.kind == DIRECTORY {
+                return Err(Refusal::IsDir);
+            }
+            Ok(())
+        }
+        Kind::Directory => {
+            if inode.kind != DIRECTORY {
+                return Err(Refusal::NotDir);
+            }
+            match next_after(dev, inode, None) {
+                Some(_) => Err(Refusal::NotEmpty),
+                None => Ok(()),
+            }
+        }
+    }
+}
+
+// The refusal of the root.
+fn root_refusal(kind: Kind) -> Refusal
+    ensures { (t : Tree) → IsDir t → refusal t (leave_op kind (47 ∷ [])) ≡ Some result }
+{
+    match kind {
+        Kind::File => Refusal::IsDir,
+        Kind::Directory => Refusal::IsRoot,
+    }
+}
+
+/// The entry at a path, and its object, which a call for a kind may remove; or why there is none.
+pub(crate) fn find_leaf<D: Pm>(dev: &D, path: &[u8], kind: Kind) -> Result<(Entry, Inode), Refusal>
+    requires { IsAtRest (D.words dev.now) }
+    ensures answer { (t : Tree) → StandsFor (D.words dev.now) t → Passes result (refusal t (leave_op kind path.now)) }
+    ensures entry { IfOk result (λ found. IsEntryAt (D.words dev.now) path.now found.0) }
+    ensures leaf { IfOk result (λ found. IsLeaf (files (D.words dev.now)) found.0.dir found.0.offset found.0.number) }
+    ensures inode { IfOk result (λ found. found.1 ≡ inode_at (view (D.words dev.now)) found.0.number) }
+{
+    if path == b"/".as_slice() {
+        return Err(root_refusal(kind));
+    }
+    let entry = match find_entry(dev, path) {
+        Ok(entry) => entry,
+        Err(refusal) => return Err(refusal),
+    };
+    let inode = get(dev, entry.number);
+    match check_kind(dev, inode, kind) {
+        Ok(()) => Ok((entry, inode)),
+        Err(refusal) => Err(refusal),
+    }
+}

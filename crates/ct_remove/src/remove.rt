@@ -1,0 +1,106 @@
+// An entry goes with its object.
+ghost use Rattle.std.specs.Prelude.{◌≡◌, ◌≢◌, ◌+◌, ◌≤◌, length, OnOk};
+ghost use Rattle.ct_base.specs.Causes.{HasCause};
+ghost use Rattle.ct_base.specs.Inode.{inode as inode_at};
+ghost use Rattle.ct_base.specs.Plan.{give_up_wants};
+ghost use Rattle.ct_base.specs.View.{inode_count, view};
+ghost use Rattle.ct_base.specs.Wants.{missing};
+ghost use Rattle.ct_call.specs.Mounted.{IsAtRest};
+ghost use Rattle.ct_frames.specs.Agrees.{Agrees};
+ghost use Rattle.ct_pm.specs.Device.{NothingPending};
+ghost use Rattle.ct_pm.specs.Phase.{Phase};
+ghost use Rattle.ct_record.specs.Seen.{device_behind};
+ghost use Rattle.ct_tree.specs.Lands.{files};
+ghost use Rattle.ct_remove.specs.Found.{IsLeaf};
+ghost use Rattle.ct_remove.specs.Removed.{RemovedOrNot, removed};
+
+use crate::draft::NO_PART;
+use crate::find::Entry;
+use crate::record::remove_now;
+use ct_base::Inode;
+use ct_cut::prepare_whole;
+use ct_frames::Frames;
+use ct_pm::Pm;
+use ct_record::Broken;
+use ct_walk::unstage;
+
+/// The staging slot of the calls.
+const STAGING: u64 = 2;
+
+// Removes an entry with an object that has a partition: the tables are made between whose entries it goes, and the staging
+// slot is emptied behind the record.
+fn remove_whole<D: Pm>(
+    dev: D,
+    frames: &mut Frames,
+    entry: Entry,
+    level: u64,
+) -> Result<D, Broken<D>>
+    requires rest { IsAtRest (D.words dev) }
+    requires agrees { Agrees (D.words dev) frames.old }
+    requires settled { NothingPending (D.told dev) }
+    requires leaf { IsLeaf (files (D.words dev)) entry.dir entry.offset entry.number }
+    requires level { (inode_at (view (D.words dev)) entry.number).level ≡ level }
+    requires has { level ≢ 15 }
+    requires space { missing (D.words dev) (give_up_wants (inode_at (view (D.words dev)) entry.number)) ≤ length frames.old.free }
+
+    ensures objects { OnOk result (files (D.words (device_behind result)) ≡ removed (files (D.words dev)) entry.dir entry.offset entry.number) }
+    ensures counted { OnOk result (inode_count (D.words (device_behind result)) ≡ inode_count (D.words dev)) }
+    ensures rest { OnOk result (IsAtRest (D.words (device_behind result))) }
+    ensures agrees { OnOk result (Agrees (D.words (device_behind result)) frames.new) }
+    ensures settled { OnOk result (NothingPending (D.told (device_behind result))) }
+    ensures phase { Phase (RemovedOrNot (files (D.words dev)) entry.dir entry.offset entry.number) 178 (D.told dev) (D.told (device_behind result)) (D.words (device_behind result)) }
+    ensures taken { OnOk result (length frames.old.free ≤ length frames.new.free + missing (D.words dev) (give_up_wants (inode_at (view (D.words dev)) entry.number))) }
+    ensures cause { HasCause (D.faults dev) (D.faults (device_behind result)) result }
+{
+    let mut dev = dev;
+    match prepare_whole(&mut dev, frames, entry.number) {
+        Ok(()) => {}
+        Err(_) => return Err(Broken { dev }),
+    }
+    let mut dev = match remove_now(dev, entry, level) {
+        Ok(dev) => dev,
+        Err(broken) => return Err(broken),
+    };
+    match unstage(&mut dev, frames, STAGING) {
+        Ok(()) => Ok(dev),
+        Err(_) => Err(Broken { dev }),
+    }
+}
+
+/// Removes an entry with its object, which has no slots: one record empties the entry's slot, frees the inode and gives the
+/// partition up, where the object has one.
+///
+/// # Errors
+///
+/// `Broken` where the device failed. The object is then to be found whole or not at all once the device settles.
+pub(crate) fn remove<D: Pm>(
+    dev: D,
+    frames: &mut Frames,
+    entry: Entry,
+    inode: Inode,
+) -> Result<D, Broken<D>>
+    requires rest { IsAtRest (D.words dev) }
+    requires agrees { Agrees (D.words dev) frames.old }
+    requires settled { NothingPending (D.told dev) }
+    requires leaf { IsLeaf (files (D.words dev)) entry.dir entry.offset entry.number }
+    requires inode { inode ≡ inode_at (view (D.words dev)) entry.number }
+    requires space { missing (D.words dev) (give_up_wants inode) ≤ length frames.old.free }
+
+    ensures objects { OnOk result (files (D.words (device_behind result)) ≡ removed (files (D.words dev)) entry.dir entry.offset entry.number) }
+    ensures counted { OnOk result (inode_count (D.words (device_behind result)) ≡ inode_count (D.words dev)) }
+    ensures rest { OnOk result (IsAtRest (D.words (device_behind result))) }
+    ensures agrees { OnOk result (Agrees (D.words (device_behind result)) frames.new) }
+    ensures settled { OnOk result (NothingPending (D.told (device_behind result))) }
+
+    // A crash at any moment lands on the objects with this one, or on those without it.
+    ensures phase { Phase (RemovedOrNot (files (D.words dev)) entry.dir entry.offset entry.number) 178 (D.told dev) (D.told (device_behind result)) (D.words (device_behind result)) }
+
+    // No more pages are taken than were missing.
+    ensures taken { OnOk result (length frames.old.free ≤ length frames.new.free + missing (D.words dev) (give_up_wants inode)) }
+    ensures cause { HasCause (D.faults dev) (D.faults (device_behind result)) result }
+{
+    if inode.level == NO_PART {
+        return remove_now(dev, entry, NO_PART);
+    }
+    remove_whole(dev, frames, entry, inode.level)
+}

@@ -1,0 +1,64 @@
+-- What a rename makes of sound words.
+use Rattle.std.proofs.Common.{◌≡◌, ◌≢◌, ℕ, ◌<◌, List, sym, ap, ◌∙◌, subst}
+use Rattle.std.specs.Prelude.{slice_index}
+use Rattle.ct_pm.specs.Device.{SameOff}
+use Rattle.ct_record.specs.Record.{InRecord}
+use Rattle.ct_state.specs.Forest.{OneTree}
+use Rattle.ct_tree.specs.Lands.{files}
+use Rattle.ct_remove.specs.Asked.{IsAsked}
+use Rattle.ct_remove.proofs.Removing.{files_are as removed_are}
+use Rattle.ct_rename.specs.Moves.{CanMove, HasTree, Moved, MovesEntry, Replaces, moved, replaced}
+use Rattle.ct_rename.proofs.Moving.{files_are, moved_settled}
+use Rattle.ct_rename.proofs.Recording.{Changed, moves_beside}
+use Rattle.ct_rename.proofs.Replacing.{can_still}
+use Rattle.ct_rename.proofs.Spared.{moved_page, replaced_page}
+
+-- the words are those of a name
+abbrev pub AreBytes : List ℕ → Type 0
+AreBytes name = (j : ℕ) → slice_index name j < 256
+
+-- what a draft of a move does
+pub record MovesBy (d o k s i : ℕ) (name : List ℕ) (old new : List ℕ) : Type 0 where
+  pub moves : MovesEntry old new d o k s i name
+  pub small : AreBytes name
+
+pub moves_by_beside : {d o k s i : ℕ} {name : List ℕ} (old mid new : List ℕ) → MovesBy d o k s i name old mid → SameOff InRecord new mid → MovesBy d o k s i name old new
+moves_by_beside old mid new m same = record { moves = moves_beside m.moves same; small = m.small }
+
+pub moved_by : {w new : List ℕ} {d o k s i : ℕ} {name : List ℕ} → CanMove w d o k s i name → MovesBy d o k s i name w new → Moved w new d o k s i name
+moved_by can m = record { can = can; moves = m.moves; small = m.small }
+
+pub moved_changed : {w : List ℕ} {d o k s i : ℕ} {name : List ℕ} → CanMove w d o k s i name → HasTree (moved (files w) d o k s i name) → (new : List ℕ) → MovesBy d o k s i name w new → Changed w new (moved (files w) d o k s i name)
+moved_changed can tree new m = record {
+  settled = λ shut. moved_settled (moved_by can m) tree.one shut;
+  objects = files_are (moved_by can m);
+  pages = λ page is. moved_page (moved_by can m) is;
+}
+
+-- and one of a move that replaces
+pub record ReplacesBy (d o k s i j : ℕ) (name : List ℕ) (old new : List ℕ) : Type 0 where
+  pub replaces : Replaces old new d o k s i j name
+  pub small : AreBytes name
+
+pub replaces_by_beside : {d o k s i j : ℕ} {name : List ℕ} (old mid new : List ℕ) → ReplacesBy d o k s i j name old mid → SameOff InRecord new mid → ReplacesBy d o k s i j name old new
+replaces_by_beside old mid new m same = record {
+  replaces = record { middle = m.replaces.middle; removes = m.replaces.removes; shut = m.replaces.shut; moves = moves_beside m.replaces.moves same };
+  small = m.small;
+}
+
+module _ {w : List ℕ} {d o k s i j : ℕ} {name : List ℕ} (can : CanMove w d o k s i name) (asked : IsAsked w k s j) (away : d ≡ k → o ≢ s) where
+  pub moved_last : {new : List ℕ} (r : Replaces w new d o k s i j name) → AreBytes name → Moved r.middle new d o k s i name
+  moved_last r small = record { can = can_still can asked r.removes away r.shut; moves = r.moves; small = small }
+
+  pub replaced_are : {new : List ℕ} → Replaces w new d o k s i j name → AreBytes name → files new ≡ replaced (files w) d o k s i j name
+  replaced_are r small = files_are (moved_last r small) ∙ ap (λ fs. moved fs d o k s i name) (removed_are asked r.removes)
+
+  pub replaced_tree : HasTree (replaced (files w) d o k s i j name) → {new : List ℕ} (r : Replaces w new d o k s i j name) → HasTree (moved (files r.middle) d o k s i name)
+  replaced_tree tree r = record { tree = tree.tree; one = subst (λ fs. OneTree (moved fs d o k s i name) tree.tree) (sym (removed_are asked r.removes)) tree.one }
+
+  pub replaced_changed : HasTree (replaced (files w) d o k s i j name) → (new : List ℕ) → ReplacesBy d o k s i j name w new → Changed w new (replaced (files w) d o k s i j name)
+  replaced_changed tree new m = record {
+    settled = λ shut. moved_settled (moved_last m.replaces m.small) (replaced_tree tree m.replaces).one shut;
+    objects = replaced_are m.replaces m.small;
+    pages = λ page is. replaced_page can asked away m.small m.replaces is;
+  }

@@ -1,0 +1,15 @@
+pub mod Bytes
+pub mod Calling
+pub mod Carrying
+pub mod Changing
+pub mod Checking
+pub mod Composing
+pub mod Ending
+pub mod Forming
+pub mod Locating
+pub mod Moving
+pub mod Pairing
+pub mod Planning
+pub mod Recording
+pub mod Replacing
+pub mod Spared

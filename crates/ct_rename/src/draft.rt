@@ -1,0 +1,138 @@
+// The pairs of a rename.
+ghost use Rattle.std.specs.Prelude.{◌≡◌, ◌≢◌, ◌⊎◌, ℕ, ◌+◌, ◌*◌, ◌/◌, ◌%◌, ◌<◌, ◌≤◌, [], true, OnOk, slice_index};
+ghost use Rattle.ct_base.specs.Causes.{HasCause};
+ghost use Rattle.ct_base.specs.Inode.{inode as inode_at, part_bytes};
+ghost use Rattle.ct_base.specs.Path.{is_name};
+ghost use Rattle.ct_base.specs.Rules.{HasRoom, IsPlaced};
+ghost use Rattle.ct_base.specs.Settled.{Named};
+ghost use Rattle.ct_base.specs.Slots.{IsSlot};
+ghost use Rattle.ct_base.specs.View.{view};
+ghost use Rattle.ct_base.specs.Walk.{AreTables, page_at};
+ghost use Rattle.ct_cut.specs.GivenUp.{CanGiveUp};
+ghost use Rattle.ct_dir.specs.Directory.{dir_of};
+ghost use Rattle.ct_remove.specs.Asked.{IsAsked};
+ghost use Rattle.ct_record.specs.Seen.{Drafts, count_of, drafted, faults_under, pairs_of, words_under};
+ghost use Rattle.ct_rename.specs.Moves.{CanMove, IsLinkWord, IsMoveWord, IsReplaceWord, MovesEntry, Relinks, Replaces};
+
+use ct_base::Inode;
+use ct_dir::{clear, set};
+use ct_enter::{Spot, raise_size};
+use ct_pm::{Pm, PmFault};
+use ct_record::Draft;
+use ct_remove::{Entry, draft_removal};
+
+/// How many bytes a slot has.
+const SLOT_BYTES: u64 = 256;
+
+// Drafts that a slot becomes empty, and that another, or the same, then has an entry.
+fn relink<D: Pm>(
+    draft: &mut Draft<D>,
+    from: Inode,
+    offset: u64,
+    to: Inode,
+    at: u64,
+    number: u64,
+    name: &[u8],
+) -> Result<(), PmFault>
+    requires tables { AreTables (words_under draft.old) }
+    requires after { AreTables (drafted draft.old) }
+    requires placed { IsPlaced from }
+    requires used { IsSlot (dir_of (words_under draft.old) from) offset }
+    requires to_room { HasRoom to }
+    requires aligned { at % 256 ≡ 0 }
+    requires inside { at + 256 ≤ part_bytes to.level }
+    requires number { number ≤ 1048576 }
+    requires name { is_name name.now ≡ true }
+    requires there { page_at (words_under draft.old) 4 ((to.base + at) / 4096) ≢ 0 }
+    requires few { count_of draft.old + 64 ≤ 8184 }
+    // The pages of both are where they were before the pairs so far.
+    requires from_page { page_at (drafted draft.old) 4 ((from.base + offset) / 4096) ≡ page_at (words_under draft.old) 4 ((from.base + offset) / 4096) }
+    requires to_page { page_at (drafted draft.old) 4 ((to.base + at) / 4096) ≡ page_at (words_under draft.old) 4 ((to.base + at) / 4096) }
+
+    ensures links { OnOk result (Relinks (drafted draft.old) (drafted draft.new) (from.base + offset) (to.base + at) number name.now) }
+    ensures named { OnOk result ((word : ℕ) → Named (pairs_of draft.new) word
+        → IsLinkWord (words_under draft.old) (from.base + offset) (to.base + at) word ⊎ Named (pairs_of draft.old) word) }
+    ensures bytes { OnOk result ((k : ℕ) → slice_index name.now k < 256) }
+    ensures count { OnOk result (count_of draft.new ≡ count_of draft.old + 64) }
+    ensures drafts { Drafts draft.old draft.new }
+    ensures cause { HasCause (faults_under draft.old) (faults_under draft.new) result }
+{
+    clear(draft, from, offset)?;
+    set(draft, to, at, number, name)?;
+    Ok(())
+}
+
+/// Drafts that an entry leaves its slot for an empty one, or gets another name in it.
+pub(crate) fn draft_move<D: Pm>(
+    draft: &mut Draft<D>,
+    from: Inode,
+    entry: Entry,
+    spot: &Spot<'_>,
+) -> Result<(), PmFault>
+    requires can { CanMove (words_under draft.old) entry.dir entry.offset spot.now.dir spot.now.offset entry.number spot.now.name.now }
+    requires from { inode_at (view (words_under draft.old)) entry.dir ≡ from }
+    requires to { inode_at (view (words_under draft.old)) spot.now.dir ≡ spot.now.inode }
+    requires there { page_at (words_under draft.old) 4 ((spot.now.inode.base + spot.now.offset) / 4096) ≢ 0 }
+    requires begun { pairs_of draft.old ≡ [] }
+    requires none { count_of draft.old ≡ 0 }
+
+    ensures moves { OnOk result (MovesEntry (words_under draft.old) (drafted draft.new) entry.dir entry.offset spot.now.dir spot.now.offset entry.number spot.now.name.now) }
+    ensures named { OnOk result ((word : ℕ) → Named (pairs_of draft.new) word
+        → IsMoveWord (words_under draft.old) (from.base + entry.offset) (spot.now.inode.base + spot.now.offset) spot.now.dir word) }
+    ensures bytes { OnOk result ((k : ℕ) → slice_index spot.now.name.now k < 256) }
+    ensures some { OnOk result (0 < count_of draft.new) }
+    ensures few { OnOk result (count_of draft.new ≤ 65) }
+    ensures drafts { Drafts draft.old draft.new }
+    ensures cause { HasCause (faults_under draft.old) (faults_under draft.new) result }
+{
+    relink(
+        draft,
+        from,
+        entry.offset,
+        spot.inode,
+        spot.offset,
+        entry.number,
+        spot.name,
+    )?;
+    raise_size(draft, spot.dir, spot.inode.size, spot.offset + SLOT_BYTES)
+}
+
+/// Drafts that an entry goes with its object, and that another takes its slot.
+pub(crate) fn draft_replace<D: Pm>(
+    draft: &mut Draft<D>,
+    from: Inode,
+    entry: Entry,
+    to: Inode,
+    gone: Entry,
+    level: u64,
+    name: &[u8],
+) -> Result<(), PmFault>
+    requires can { CanMove (words_under draft.old) entry.dir entry.offset gone.dir gone.offset entry.number name.now }
+    requires asked { IsAsked (words_under draft.old) gone.dir gone.offset gone.number }
+    requires from { inode_at (view (words_under draft.old)) entry.dir ≡ from }
+    requires to { inode_at (view (words_under draft.old)) gone.dir ≡ to }
+    requires level { (inode_at (view (words_under draft.old)) gone.number).level ≡ level }
+    requires give { level ≢ 15 → CanGiveUp (words_under draft.old) (inode_at (view (words_under draft.old)) gone.number) }
+    requires begun { pairs_of draft.old ≡ [] }
+    requires none { count_of draft.old ≡ 0 }
+
+    ensures replaces { OnOk result (Replaces (words_under draft.old) (drafted draft.new) entry.dir entry.offset gone.dir gone.offset entry.number gone.number name.now) }
+    ensures named { OnOk result ((word : ℕ) → Named (pairs_of draft.new) word
+        → IsReplaceWord (words_under draft.old) (from.base + entry.offset) to.base gone.offset gone.number word) }
+    ensures bytes { OnOk result ((k : ℕ) → slice_index name.now k < 256) }
+    ensures some { OnOk result (0 < count_of draft.new) }
+    ensures few { OnOk result (count_of draft.new ≤ 242) }
+    ensures drafts { Drafts draft.old draft.new }
+    ensures cause { HasCause (faults_under draft.old) (faults_under draft.new) result }
+{
+    draft_removal(draft, to, gone, level)?;
+    relink(
+        draft,
+        from,
+        entry.offset,
+        to,
+        gone.offset,
+        entry.number,
+        name,
+    )
+}

@@ -1,0 +1,137 @@
+// Which form of a rename two paths ask for, and why there is none.
+ghost use Rattle.std.specs.Prelude.{◌≡◌, ◌≢◌, ℕ, ◌≤◌, [], ◌∷◌, Some, None, IfOk};
+ghost use Rattle.ct_tree.specs.Checks.{Passes, bad_path, first_of, is_root, names, no_dir, parent_at};
+ghost use Rattle.ct_tree.specs.Step.{refusal, rename};
+ghost use Rattle.ct_tree.specs.Tree.{Tree};
+ghost use Rattle.ct_tree.specs.declared.call.Refusal.TheVariants.{IsRoot as is_root_refused};
+ghost use Rattle.ct_base.specs.Inode.{inode};
+ghost use Rattle.ct_base.specs.Path.{names_of};
+ghost use Rattle.ct_base.specs.View.{view};
+ghost use Rattle.ct_base.specs.Walk.{AreTables};
+ghost use Rattle.ct_call.specs.Calls.{StandsFor};
+ghost use Rattle.ct_call.specs.Mounted.{IsAtRest};
+ghost use Rattle.ct_rename.specs.Forms.{AreBelow, IsForm, IsKindOf, IsTarget, Meets};
+
+use crate::below::lies_below;
+use ct_base::Inode;
+use ct_enter::{Kind, Spot, find_spot};
+use ct_inode::get;
+use ct_path::{Names, parse};
+use ct_pm::Pm;
+use ct_remove::{Entry, check_kind, find_entry};
+use ct_tree::Refusal;
+
+/// The kind of a directory.
+const DIRECTORY: u64 = 2;
+
+/// What a new name meets.
+#[derive(Drop)]
+pub(crate) enum Target<'p> {
+    /// An entry has it.
+    There(Entry),
+
+    /// No entry has it, and this is where one goes.
+    Free(Spot<'p>),
+}
+
+/// A form of a rename.
+#[derive(Drop)]
+pub enum Form<'p> {
+    /// The name stays, and so does all else.
+    Same,
+
+    /// An entry gets a name that is not there.
+    New(Entry, Spot<'p>),
+
+    /// An entry takes the place of another, whose object goes: its inode is the third.
+    Over(Entry, Entry, Inode),
+}
+
+// The kind that another object must have, to give way to this one.
+fn kind_at<D: Pm>(dev: &D, number: u64) -> Kind
+    requires tables { AreTables (D.words dev.now) }
+    requires from { 1 ≤ number }
+    requires to { number ≤ 1048576 }
+    ensures { IsKindOf (inode (view (D.words dev.now)) number) result }
+{
+    if get(dev, number).kind == DIRECTORY {
+        return Kind::Directory;
+    }
+    Kind::File
+}
+
+// The names of two paths, neither of which is `/`.
+fn check_paths<'p>(path: &'p [u8], to: &'p [u8]) -> Result<(Names<'p>, Names<'p>), Refusal>
+    ensures answer { Passes result (first_of (bad_path path.now ∷ bad_path to.now ∷ is_root path.now is_root_refused ∷ is_root to.now is_root_refused ∷ [])) }
+    ensures below { IfOk result (λ found. AreBelow path.now to.now found.0 found.1) }
+{
+    let names = match parse(path) {
+        Some(names) => names,
+        None => return Err(Refusal::BadPath),
+    };
+    let others = match parse(to) {
+        Some(names) => names,
+        None => return Err(Refusal::BadPath),
+    };
+    if path == b"/".as_slice() {
+        return Err(Refusal::IsRoot);
+    }
+    if to == b"/".as_slice() {
+        return Err(Refusal::IsRoot);
+    }
+    Ok((names, others))
+}
+
+// What a path other than `/` leads to, or where a new entry goes under it.
+fn find_target<'p, D: Pm>(dev: &D, to: &'p [u8]) -> Result<Target<'p>, Refusal>
+    requires rest { IsAtRest (D.words dev.now) }
+    requires good { names_of to.now ≢ None }
+    requires below { to.now ≢ 47 ∷ [] }
+    ensures answer { (t : Tree) → StandsFor (D.words dev.now) t → Passes result (no_dir (parent_at t to.now)) }
+    ensures target { IfOk result (λ target. IsTarget (D.words dev.now) to.now target) }
+    ensures node { (t : Tree) → StandsFor (D.words dev.now) t → IfOk result (Meets (D.words dev.now) to.now t) }
+{
+    match find_entry(dev, to) {
+        Ok(entry) => Ok(Target::There(entry)),
+        Err(_) => match find_spot(dev, to) {
+            Ok(spot) => Ok(Target::Free(spot)),
+            Err(refusal) => Err(refusal),
+        },
+    }
+}
+
+/// Which form of a rename two paths ask for, or why there is none.
+pub fn find_form<'p, D: Pm>(dev: &D, path: &[u8], to: &'p [u8]) -> Result<Form<'p>, Refusal>
+    requires { IsAtRest (D.words dev.now) }
+    ensures answer { (t : Tree) → StandsFor (D.words dev.now) t → Passes result (refusal t (rename path.now to.now)) }
+    ensures form { IfOk result (λ form. IsForm (D.words dev.now) path.now to.now form) }
+{
+    let (names, others) = match check_paths(path, to) {
+        Ok(found) => found,
+        Err(refusal) => return Err(refusal),
+    };
+    let from = match find_entry(dev, path) {
+        Ok(entry) => entry,
+        Err(refusal) => return Err(refusal),
+    };
+    let target = match find_target(dev, to) {
+        Ok(target) => target,
+        Err(refusal) => return Err(refusal),
+    };
+    if lies_below(names, others) {
+        return Err(Refusal::IntoSelf);
+    }
+    if *path == *to {
+        return Ok(Form::Same);
+    }
+    match target {
+        Target::Free(spot) => Ok(Form::New(from, spot)),
+        Target::There(there) => {
+            let gone = get(dev, there.number);
+            match check_kind(dev, gone, kind_at(dev, from.number)) {
+                Ok(()) => Ok(Form::Over(from, there, gone)),
+                Err(refusal) => Err(refusal),
+            }
+        }
+    }
+}

@@ -1,8 +1,8 @@
 -- The rules of the head and those of the settled image as one row.
-use Rattle.std.proofs.Common.{◌≡◌, ℕ, ◌<◌, ◌≤◌, List, inl, inr, arith}
+use Rattle.std.proofs.Common.{◌≡◌, ℕ, ◌<◌, List, inl, inr, arith}
 use Rattle.std.proofs.lemmas.Bool.{cases_eq, cases_lt}
-use Rattle.ct_base.specs.Head.{HasHead, HeadHolds, HeadRule, head_number}
-use Rattle.ct_base.specs.Rules.{FailsFirst, HoldsAt, Rule, Sound, number}
+use Rattle.ct_base.specs.Head.{HasHead, HeadRule, head_number}
+use Rattle.ct_base.specs.Rules.{FailsFirst, Rule, Sound, number}
 use Rattle.ct_base.specs.Settled.{settled}
 use Rattle.ct_state.proofs.States.{head_of, head_rules}
 use Rattle.ct_check.specs.First.{MountFailsFirst, MountHolds, MountRule, body, head, mount_number}

@@ -1,15 +1,12 @@
 -- One more entry, table or level is read.
+use Rattle.ct_placing.proofs.Collecting.{parent_there}
 use Rattle.std.proofs.Common.{◌≡◌, ◌≢◌, ◌⊎◌, ℕ, zero, suc, ◌+◌, ◌*◌, ◌/◌, ◌%◌, ◌<◌, ◌≤◌, Bool, true, false, List, length, refl, sym, ap, ◌∙◌, subst, inl, inr, arith}
 use Rattle.std.specs.Prelude.{◌||◌}
 use Rattle.std.proofs.lemmas.Bool.{cases_eq, cases_lt, both_ways}
 use Rattle.ct_base.specs.Walk.{word, page_count, page_at, next}
-use Rattle.ct_image.proofs.Steps.{next-zero, page_at-next, page_at-entry, page_at-low, page_at-high}
-use Rattle.ct_check.specs.Marks.{is_marked, AreBlank, Marked}
+use Rattle.ct_image.proofs.Steps.{page_at-next, page_at-entry, page_at-low, page_at-high}
+use Rattle.ct_marks.specs.Marks.{is_marked, AreBlank, Marked}
 use Rattle.ct_check.specs.Reading.{slot_of, IsRead, IsAt, IsLevel, Names, IsTwice, IsBad, Walked, Reads}
-
--- a cell with a page has a table above it
-pub parent_there : (img : List ℕ) (e y : ℕ) → page_at img (suc e) y ≢ 0 → page_at img e (y / 512) ≢ 0
-parent_there img e y ne none = ne (page_at-next img e y ∙ ap (λ t. next img t (y % 512)) none ∙ next-zero img (y % 512))
 
 -- the cells whose entry is read between two words of the tables of a depth
 pub record IsNew (img : List ℕ) (d b b' e y : ℕ) : Type 0 where

@@ -9,11 +9,11 @@ use Rattle.ct_frames.specs.Agrees.{Agrees}
 use Rattle.ct_frames.specs.Free.{FreePages}
 use Rattle.ct_image.proofs.Steps.{page_at-entry, next-bounds}
 use Rattle.ct_state.proofs.Whole.{seen_from, down, cell_seen}
-use Rattle.ct_check.specs.Marks.{is_marked}
+use Rattle.ct_marks.specs.Marks.{is_marked}
 use Rattle.ct_check.specs.Reading.{slot_of, IsTwice, IsBad, Walked}
 use Rattle.ct_check.specs.Rules.{HasNoStaging, HoldBelow}
 use Rattle.ct_check.proofs.Order.{below_first, below_more}
-use Rattle.ct_check.proofs.Reading.{parent_there}
+use Rattle.ct_placing.proofs.Collecting.{parent_there}
 
 -- all levels were read
 module _ {img pages : List ℕ} {twice : Bool} (w : Walked img 4 0 pages twice) where

@@ -4,7 +4,7 @@ use Rattle.std.specs.Prelude.{nat_lt, not, if◌then◌else◌, Contains, ◌↔
 use Rattle.std.proofs.lemmas.Bool.{cases_eq, cases_lt, both_ways, cond-true, cond-false, lt-ltb, le-ltb}
 use Rattle.ct_frames.specs.Free.{listed, without, rising}
 use Rattle.ct_frames.proofs.Lists.{listed-same, listed-skip, listed-all, listed-without, in_listed, listed_passes}
-use Rattle.ct_check.specs.Marks.{is_marked}
+use Rattle.ct_marks.specs.Marks.{is_marked}
 
 -- page q is free once the pages below k were passed
 unfoldable pub is_spare : List ℕ → ℕ → ℕ → Bool

@@ -1,5 +1,5 @@
 -- The first mount rule that fails, of 0 to 20. Rules 0 to 7 are read on an image as it is, the others on what it settles to.
-use Rattle.std.specs.Prelude.{◌≡◌, ℕ, ◌<◌, List}
+use Rattle.std.specs.Prelude.{ℕ, ◌<◌, List}
 use Rattle.ct_base.specs.Head.{HeadRule, HeadHolds, head_number}
 use Rattle.ct_base.specs.Rules.{Rule, HoldsAt, number}
 use Rattle.ct_base.specs.Settled.{settled}

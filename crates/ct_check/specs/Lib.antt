@@ -1,12 +1,4 @@
-pub mod Extents
 pub mod First
-pub mod Heading
 pub mod Heads
-pub mod Marks
-pub mod Naming
 pub mod Reading
 pub mod Rules
-pub mod Slots
-pub mod Spelling
-pub mod Visits
-pub mod Zeros

@@ -2,7 +2,7 @@
 -- so that what was read of a level are the entries that stand below a word.
 use Rattle.std.specs.Prelude.{◌≡◌, ◌≢◌, ◌⊎◌, ℕ, suc, ◌+◌, ◌*◌, ◌/◌, ◌%◌, ◌<◌, ◌≤◌, Bool, true, false, List, length}
 use Rattle.ct_base.specs.Walk.{word, page_count, page_at, next}
-use Rattle.ct_check.specs.Marks.{is_marked}
+use Rattle.ct_marks.specs.Marks.{is_marked}
 
 -- the word of the entry that leads to cell (e + 1, y)
 abbrev pub slot_of : List ℕ → ℕ → ℕ → ℕ

@@ -5,16 +5,12 @@ ghost use Rattle.ct_base.specs.View.{inode_count};
 ghost use Rattle.ct_base.specs.Walk.{AreTables, page_count};
 ghost use Rattle.ct_check.specs.Rules.{HoldBelow, Tells};
 
-use crate::entry::are_entries;
-use crate::extents::{are_in_order, are_mapped_in_parts, sorted_extents};
 use crate::fault::CheckFault;
-use crate::headers::are_headers;
-use crate::inodes::{are_inodes, are_placed};
-use crate::named::are_named;
-use crate::names::are_names_apart;
-use crate::reach::are_reached;
-use crate::tails::are_tails_zero;
-use crate::zeros::is_rest_zero;
+use ct_naming::{are_entries, are_named, are_names_apart, are_reached};
+use ct_placing::{
+    are_headers, are_in_order, are_inodes, are_mapped_in_parts, are_placed, are_tails_zero,
+    is_rest_zero, sorted_extents,
+};
 use ct_pm::Pm;
 use std::alloc::Global;
 

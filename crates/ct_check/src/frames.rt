@@ -1,10 +1,10 @@
 // The pages that no index step has met are free.
 ghost use Rattle.std.specs.Prelude.{◌≡◌, ℕ, ◌<◌, ◌≤◌, ◌↔◌, false, length, IfOk, Contains};
-ghost use Rattle.ct_check.specs.Marks.{is_marked};
+ghost use Rattle.ct_marks.specs.Marks.{is_marked};
 
-use crate::marks::has_mark;
 use ct_base::{NoMemory, Page};
 use ct_frames::Frames;
+use ct_marks::has_mark;
 use std::alloc::Global;
 
 /// The pages from 34 on that have no mark.

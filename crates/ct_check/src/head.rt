@@ -5,23 +5,11 @@ ghost use Rattle.ct_base.specs.Settled.{HaveTargets};
 ghost use Rattle.ct_base.specs.Walk.{word, page_count};
 ghost use Rattle.ct_check.specs.Heads.{HeadTells};
 
+use ct_marks::are_zero;
 use ct_pm::Pm;
 
 /// Word 0 of an image, by which it is known: the bytes `RTCTFS01`.
 const MAGIC: u64 = 0x3130_5346_5443_5452;
-
-/// Whether the words from one on are 0, up to the one before another.
-pub fn are_zero<D: Pm>(dev: &D, from: u64, to: u64) -> bool
-    requires { to ≤ length (D.words dev.now) }
-    ensures { IsTrue result ↔ ((w : ℕ) → from ≤ w → w < to → word (D.words dev.now) w ≡ 0) }
-{
-    for w in from..to {
-        if dev.load(w) != 0 {
-            return false;
-        }
-    }
-    true
-}
 
 // Whether each of so many pairs from a word on names one that it may name.
 fn have_targets<D: Pm>(dev: &D, from: u64, pairs: u64) -> bool

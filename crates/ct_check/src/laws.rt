@@ -8,7 +8,7 @@ ghost use Rattle.ct_base.specs.Rules.{AreHeaders, ArePartsApart, ArePlaced, Fail
 ghost use Rattle.ct_base.specs.Settled.{settled};
 ghost use Rattle.ct_base.specs.View.{inode_count, view};
 ghost use Rattle.ct_check.specs.First.{MountFailsFirst, MountHolds, MountRule, body, head, mount_number};
-ghost use Rattle.ct_check.specs.Heading.{LooksRight};
+ghost use Rattle.ct_placing.specs.Heading.{LooksRight};
 ghost use Rattle.ct_check.specs.Heads.{HeadFailsFirst};
 
 /// Of the mount rules 0 to 20 at most one is the first that fails. It is the first of rules 0 to 7 that fails; where none of

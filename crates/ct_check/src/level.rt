@@ -5,7 +5,7 @@ ghost use Rattle.ct_check.specs.Reading.{IsAt, IsLevel, Reads, Walked};
 ghost use Rattle.ct_check.specs.Rules.{Stops};
 
 use crate::fault::Stop;
-use crate::marks::{Met, has_mark, meet, no_marks};
+use ct_marks::{Met, has_mark, meet, no_marks};
 use ct_pm::Pm;
 use std::alloc::Global;
 

@@ -10,8 +10,8 @@ ghost use Rattle.ct_frames.specs.Agrees.{Agrees};
 use crate::fault::{CheckFault, Stop};
 use crate::frames::unmarked;
 use crate::level::{ROOT, next_level};
-use crate::marks::{Met, no_marks, set_mark};
 use ct_frames::Frames;
+use ct_marks::{Met, no_marks, set_mark};
 use ct_pm::Pm;
 use std::alloc::Global;
 

@@ -1,4 +1,4 @@
-use Rattle.std.proofs.Common.{false, refl, arith}
+use Rattle.std.proofs.Common.{false, refl}
 use Rattle.std.proofs.lemmas.Bool.{both_ways}
 use Rattle.ct_base.specs.Rules.{inodes, placed}
 use Rattle.ct_check.proofs.Order.{below_more, fails_first}

@@ -1,4 +1,4 @@
-use Rattle.std.proofs.Common.{sym, refl, arith}
+use Rattle.std.proofs.Common.{refl, arith}
 use Rattle.std.proofs.lemmas.Bool.{both_ways}
 use Rattle.ct_base.specs.Rules.{named, names, placed, reached, slots}
 use Rattle.ct_check.proofs.Order.{below_more, fails_first}

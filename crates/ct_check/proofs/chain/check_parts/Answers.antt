@@ -1,7 +1,7 @@
 use Rattle.std.proofs.Common.{false, refl, arith}
 use Rattle.std.proofs.lemmas.Bool.{both_ways}
 use Rattle.ct_base.specs.Rules.{apart, mapped, placed, tails}
-use Rattle.ct_check.proofs.Collecting.{apart_in_order, in_order_apart}
+use Rattle.ct_placing.proofs.Collecting.{apart_in_order, in_order_apart}
 use Rattle.ct_check.proofs.Order.{below_more, fails_first}
 use Rattle.ct_check.proofs.chain.check_parts.Goals as goal
 

@@ -1,7 +1,7 @@
 use Rattle.std.proofs.Common.{◌≡◌, ◌<◌, ◌≤◌, ℕ, List, sym, subst, ap, ◌∙◌, arith}
 use Rattle.std.specs.Prelude.{Contains, ◌↔◌, false}
 use Rattle.ct_frames.specs.Free.{FreePages, listed, without}
-use Rattle.ct_check.specs.Marks.{is_marked}
+use Rattle.ct_marks.specs.Marks.{is_marked}
 use Rattle.ct_check.proofs.Spare.{is_spare, spare_start, spare_there, spare_marked, spare_unmarked, spare_all}
 use Rattle.ct_check.proofs.frames.unmarked.Goals as goal
 use Rattle.ct_check.proofs.frames.unmarked.Goals.{then-has_mark, else-has_mark}

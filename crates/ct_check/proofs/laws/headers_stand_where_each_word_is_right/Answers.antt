@@ -4,7 +4,7 @@ use Rattle.ct_base.specs.View.{inode_count, view}
 use Rattle.ct_parts.proofs.Live.{live_disjoint}
 use Rattle.ct_state.proofs.Bytes.{little-below}
 use Rattle.ct_words.proofs.Shown.{view-small}
-use Rattle.ct_check.proofs.Standing.{local_looks, local_stand, looks_local, stand_local, stand_shown}
+use Rattle.ct_placing.proofs.Standing.{local_looks, local_stand, looks_local, stand_local, stand_shown}
 use Rattle.ct_check.proofs.laws.headers_stand_where_each_word_is_right.Goals as goal
 
 pub returns-clause-local : goal.returns-clause-local

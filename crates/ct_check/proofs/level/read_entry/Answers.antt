@@ -1,7 +1,7 @@
 use Rattle.std.proofs.Common.{ap, sym, subst, ◌∙◌, refl, arith}
 use Rattle.std.specs.Prelude.{◌||◌}
 use Rattle.ct_image.proofs.Steps.{next-bounds}
-use Rattle.ct_check.specs.Marks.{is_marked, Marked}
+use Rattle.ct_marks.specs.Marks.{is_marked, Marked}
 use Rattle.ct_check.proofs.Reading.{empty_entry, reads_skip, reads_found, bad_entry}
 use Rattle.ct_check.proofs.level.read_entry.Goals as goal
 

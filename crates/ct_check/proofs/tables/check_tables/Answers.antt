@@ -2,7 +2,7 @@ use Rattle.std.proofs.Common.{◌≡◌, ◌<◌, ◌≤◌, Bool, false, ℕ, r
 use Rattle.std.specs.Prelude.{Contains, ◌↔◌}
 use Rattle.ct_base.specs.Rules.{entries, once}
 use Rattle.ct_base.specs.Walk.{page_count}
-use Rattle.ct_check.specs.Marks.{is_marked}
+use Rattle.ct_marks.specs.Marks.{is_marked}
 use Rattle.ct_check.specs.Reading.{Walked}
 use Rattle.ct_check.specs.Rules.{Stops}
 use Rattle.ct_check.proofs.Sound.{both_hold, tables_all, frames_all, frames_free, entries_hold, bad_fails, twice_fails}

@@ -1,6 +1,0 @@
-use Rattle.std.proofs.Common.{ℕ, ◌<◌, ◌≤◌}
-use Rattle.ct_check.specs.Heading.{IsPartShown}
-use Rattle.ct_check.proofs.headers.are_parts_shown.Given as goal
-
-abbrev pub invariant-loop-n : goal.invariant-loop-n
-invariant-loop-n g l = (i : ℕ) → 1 ≤ i → i < l.n → IsPartShown (g.D.Pm.words l.dev) i

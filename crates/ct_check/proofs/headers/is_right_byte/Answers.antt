@@ -1,5 +1,0 @@
-use Rattle.ct_check.proofs.Addresses.{wide_up}
-use Rattle.ct_check.proofs.headers.is_right_byte.Goals as goal
-
-pub header-word-requires-clause-number : goal.header-word-requires-clause-number
-header-word-requires-clause-number g c = wide_up c.args.level c.args.number c.requires.level c.requires.number

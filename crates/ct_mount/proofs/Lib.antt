@@ -1,0 +1,3 @@
+pub mod Agreeing
+pub mod Recovered
+pub mod Judged

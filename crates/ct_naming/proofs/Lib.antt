@@ -1,0 +1,4 @@
+pub mod Meeting
+pub mod Naming
+pub mod Spelt
+pub mod Visiting

@@ -1,0 +1,18 @@
+use Rattle.std.proofs.Common.{◌≡◌, ◌≤◌, ◌+◌, ◌-◌, ◌*◌, ◌%◌, length}
+use Rattle.ct_base.specs.Objects.{objects}
+use Rattle.ct_base.specs.View.{inode_count, view}
+use Rattle.ct_naming.specs.Visits.{Visits, unmarked}
+use Rattle.ct_naming.proofs.reach.reach_children.Given as goal
+
+abbrev pub invariant-loop-slot : goal.invariant-loop-slot
+invariant-loop-slot g l = record {
+  aligned : l.at % 256 ≡ 0;
+  size : length l.marks.items ≡ inode_count (g.D.Pm.words l.dev) + 1;
+  visits : Visits (objects (view (g.D.Pm.words l.dev)) (inode_count (g.D.Pm.words l.dev))) l.n 0 l.fn.marks.items l.fn.visit.items
+      → Visits (objects (view (g.D.Pm.words l.dev)) (inode_count (g.D.Pm.words l.dev))) l.n l.at l.marks.items l.visit.items;
+  less : 2 * unmarked l.marks.items (inode_count (g.D.Pm.words l.dev) + 1) + length l.visit.items
+      ≤ 2 * unmarked l.fn.marks.items (inode_count (g.D.Pm.words l.dev) + 1) + length l.fn.visit.items;
+}
+
+abbrev pub decreases-loop-slot : goal.decreases-loop-slot
+decreases-loop-slot g l = l.dir.size - l.at

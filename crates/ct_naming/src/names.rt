@@ -1,0 +1,122 @@
+// Mount rule 18: two slots of one directory have different names.
+ghost use Rattle.std.specs.Prelude.{◌≡◌, ◌↔◌, ℕ, ◌+◌, ◌<◌, ◌≤◌, IfOk, IsTrue};
+ghost use Rattle.std.specs.Cmp.Lexicographic.{slice_cmp};
+ghost use Rattle.std.specs.List.Sorted.{IsSortedByKey};
+ghost use Rattle.std.specs.Ordering.{nat_cmp};
+ghost use Rattle.ct_base.specs.Inode.{inode, IsNumber};
+ghost use Rattle.ct_base.specs.Objects.{objects};
+ghost use Rattle.ct_base.specs.Rules.{AreEntries, AreNamesApart, ArePlaced, IsPlaced};
+ghost use Rattle.ct_base.specs.Slots.{IsSlot, slot_name};
+ghost use Rattle.ct_base.specs.View.{inode_count, view};
+ghost use Rattle.ct_base.specs.Walk.{AreTables, page_count};
+ghost use Rattle.ct_dir.specs.Directory.{dir_of};
+ghost use Rattle.ct_naming.specs.Slots.{Stands};
+ghost use Rattle.ct_naming.specs.Spelling.{AreNeighboursApart, AreSpelled, AreSlotsApart, IsSpelled};
+
+use crate::slot::{Slot, next_slot};
+use crate::spelled::Spelled;
+use ct_base::{Inode, NoMemory};
+use ct_inode::get;
+use ct_pm::Pm;
+use std::alloc::Global;
+
+/// The name in a slot.
+fn spelled<D: Pm>(dev: &D, dir: Inode, slot: Slot) -> Spelled
+    requires stands { Stands (D.words dev.now) (dir_of (D.words dev.now) dir) slot.offset slot.place }
+    ensures offset { result.offset ≡ slot.offset }
+    ensures spelled { IsSpelled (dir_of (D.words dev.now) dir) result }
+{
+    let mut words = [0; 32];
+    words[0] = dev.load(slot.place) / (1 << 32);
+    for k in 1..32 {
+        words[k] = dev.load(slot.place + k as u64);
+    }
+    Spelled {
+        words,
+        offset: slot.offset,
+    }
+}
+
+/// The names in a directory, by rising offset of their slots.
+fn names_of<D: Pm>(alloc: Global, dev: &D, dir: Inode) -> Result<Vec<Spelled>, NoMemory>
+    requires tables { AreTables (D.words dev.now) }
+    requires pages { page_count (D.words dev.now) ≤ 262144 }
+    requires kind { dir.kind ≡ 2 }
+    requires placed { IsPlaced dir }
+    ensures { IfOk result (λ names. AreSpelled (dir_of (D.words dev.now) dir) names.items) }
+{
+    let mut names = Vec::new(alloc);
+    let mut at = 0;
+    while let Some(slot) = next_slot(dev, dir, at) {
+        match names.push(spelled(dev, dir, slot)) {
+            Ok(()) => {}
+            Err(_) => return Err(NoMemory),
+        }
+        at = slot.offset + 256;
+    }
+    Ok(names)
+}
+
+/// The names in a directory in the order of their words.
+fn sorted_names<D: Pm>(alloc: Global, dev: &D, dir: Inode) -> Result<Vec<Spelled>, NoMemory>
+    requires tables { AreTables (D.words dev.now) }
+    requires pages { page_count (D.words dev.now) ≤ 262144 }
+    requires kind { dir.kind ≡ 2 }
+    requires placed { IsPlaced dir }
+    ensures names { IfOk result (λ names. AreSpelled (dir_of (D.words dev.now) dir) names.items) }
+    ensures sorted { IfOk result (λ names. IsSortedByKey (λ name. name.words) (slice_cmp nat_cmp) names.items) }
+{
+    let mut names = names_of(alloc, dev, dir)?;
+    let words = |name: &Spelled| -> [u64; 32]
+        ensures { result ≡ name.now.words }
+    { name.words };
+    names.sort_unstable_by_key(words);
+    Ok(names)
+}
+
+/// Whether no two neighbours have the same words.
+fn are_neighbours_apart(names: &Vec<Spelled>) -> bool
+    ensures { IsTrue result ↔ AreNeighboursApart names.now.items }
+{
+    for k in 1..names.len() {
+        if names[k - 1].words == names[k].words {
+            return false;
+        }
+    }
+    true
+}
+
+/// Whether the slots of inode `n` have different names.
+fn are_slots_apart<D: Pm>(alloc: Global, dev: &D, n: u64) -> Result<bool, NoMemory>
+    requires tables { AreTables (D.words dev.now) }
+    requires pages { page_count (D.words dev.now) ≤ 262144 }
+    requires few { inode_count (D.words dev.now) ≤ 1048576 }
+    requires number { IsNumber (inode_count (D.words dev.now)) n }
+    requires placed { ArePlaced (view (D.words dev.now)) (inode_count (D.words dev.now)) }
+    requires entries { AreEntries (objects (view (D.words dev.now)) (inode_count (D.words dev.now))) }
+    ensures { IfOk result (λ ok. IsTrue ok ↔ AreSlotsApart (objects (view (D.words dev.now)) (inode_count (D.words dev.now)) n)) }
+{
+    let dir = get(dev, n);
+    if dir.kind != 2 {
+        return Ok(true);
+    }
+    let names = sorted_names(alloc, dev, dir)?;
+    Ok(are_neighbours_apart(&names))
+}
+
+/// Mount rule 18.
+pub fn are_names_apart<D: Pm>(alloc: Global, dev: &D) -> Result<bool, NoMemory>
+    requires tables { AreTables (D.words dev.now) }
+    requires pages { page_count (D.words dev.now) ≤ 262144 }
+    requires few { inode_count (D.words dev.now) ≤ 1048576 }
+    requires placed { ArePlaced (view (D.words dev.now)) (inode_count (D.words dev.now)) }
+    requires entries { AreEntries (objects (view (D.words dev.now)) (inode_count (D.words dev.now))) }
+    ensures { IfOk result (λ ok. IsTrue ok ↔ AreNamesApart (objects (view (D.words dev.now)) (inode_count (D.words dev.now)))) }
+{
+    for n in 1..dev.load(3) + 1 {
+        if !are_slots_apart(alloc, dev, n)? {
+            return Ok(false);
+        }
+    }
+    Ok(true)
+}

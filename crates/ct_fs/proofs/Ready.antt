@@ -4,15 +4,16 @@ use Rattle.std.specs.Prelude.{IsSome, IsSomeAnd}
 use Rattle.std.proofs.lemmas.Option.{none-some, same_Some}
 use Rattle.ct_pm.specs.Device.{NothingPending}
 use Rattle.ct_tree.specs.Tree.{Dir, none}
-use Rattle.ct_fs.proofs.Fresh.{new_mounted}
-use Rattle.ct_fs.proofs.Resting.{mounted_rest}
-use Rattle.ct_fs.specs.Calls.{Holds, Keeps}
-use Rattle.ct_fs.specs.Made.{IsNew}
-use Rattle.ct_fs.specs.Mounted.{Volume}
-use Rattle.ct_fs.specs.Seen.{dev_in, fs_dev, mounts, ready_in}
-use Rattle.ct_fs.specs.declared.mount.Fs.{Fs}
-use Rattle.ct_fs.specs.declared.mount.State.{State}
-use Rattle.ct_fs.specs.declared.mount.State.TheVariants.{Ready, Dead}
+use Rattle.ct_format.proofs.Fresh.{new_mounted}
+use Rattle.ct_call.proofs.Resting.{mounted_rest}
+use Rattle.ct_call.specs.Calls.{Holds, Keeps}
+use Rattle.ct_format.specs.Made.{IsNew}
+use Rattle.ct_call.specs.Mounted.{Volume}
+use Rattle.ct_call.specs.Seen.{dev_in, ready_in}
+use Rattle.ct_fs.specs.Mounts.{fs_dev, mounts}
+use Rattle.ct_fs.specs.declared.system.Fs.{Fs}
+use Rattle.ct_call.specs.declared.mount.State.{State}
+use Rattle.ct_call.specs.declared.mount.State.TheVariants.{Ready, Dead}
 
 dev_ready : {D : Type 0} {bound : _} (state : Option (State D bound)) (here : IsSome state) (now : Volume D) → ready_in state ≡ Some now → dev_in state here ≡ now.dev
 dev_ready None here now is = absurd (true≢false (sym here))

@@ -1,14 +1,1 @@
-pub mod Answers
-pub mod Calls
-pub mod Entry
-pub mod Formatting
-pub mod Landing
-pub mod Looks
-pub mod Made
-pub mod Makes
-pub mod Mounted
-pub mod Placed
-pub mod Plans
-pub mod Rooms
-pub mod Seen
-pub mod Spots
+pub mod Mounts

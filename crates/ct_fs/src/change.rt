@@ -1,15 +1,22 @@
 // The calls that change the tree.
 ghost use Rattle.std.specs.Prelude.{◌≡◌, ◌≢◌, ◌↔◌, Some, Err, IsNone, IsSomeAnd, OnOk};
-ghost use Rattle.ct_tree.specs.Step.{create as create_call, mkdir as mkdir_call, op_of};
+ghost use Rattle.ct_tree.specs.Step.{append as append_call, create as create_call, exchange as exchange_call, fill as fill_call, mkdir as mkdir_call, op_of, rename as rename_call, rmdir as rmdir_call, truncate as truncate_call, unlink as unlink_call, write as write_call};
 ghost use Rattle.ct_tree.specs.Tree.{Tree};
-ghost use Rattle.ct_fs.specs.Calls.{Does, IsChange, StandsFor};
-ghost use Rattle.ct_fs.specs.Mounted.{Volume};
-ghost use Rattle.ct_fs.specs.Placed.{Places};
-ghost use Rattle.ct_fs.specs.Seen.{mounts, ready_in};
+ghost use Rattle.ct_call.specs.Calls.{Does, IsChange, StandsFor};
+ghost use Rattle.ct_call.specs.Mounted.{Volume};
+ghost use Rattle.ct_call.specs.Placed.{Places};
+ghost use Rattle.ct_exchange.specs.Swapped.{SwapsWalks};
+ghost use Rattle.ct_fs.specs.Mounts.{mounts};
+ghost use Rattle.ct_call.specs.Seen.{ready_in};
 
-use crate::create::{Kind, make_in};
-use crate::mount::{Fs, FsError, Mounted, State, put_back};
+use crate::system::{Fs, put_back};
+use ct_call::{FsError, Mounted, State};
+use ct_edit::{Edit, edit_in};
+use ct_enter::{Kind, make_in};
+use ct_exchange::exchange_in;
 use ct_pm::Pm;
+use ct_remove::remove_in;
+use ct_rename::rename_in;
 use ct_tree::Call;
 
 // Makes a call on a mount.
@@ -22,12 +29,31 @@ fn change_in<D: Pm>(mounted: Mounted<D>, call: &Call<'_>) -> (State<D>, Result<(
     match *call {
         Call::Create { path } => make_in(mounted, path, Kind::File),
         Call::Mkdir { path } => make_in(mounted, path, Kind::Directory),
+        Call::Write { path, off, bytes } => { edit_in(mounted, path, Edit::Write { off, bytes }) }
+        Call::Fill {
+            path,
+            off,
+            len,
+            byte,
+        } => edit_in(mounted, path, Edit::Fill { off, len, byte }),
+        Call::Append { path, bytes } => edit_in(mounted, path, Edit::Append { bytes }),
+        Call::Truncate { path, len } => edit_in(mounted, path, Edit::Truncate { len }),
+        Call::Exchange {
+            path,
+            off,
+            other,
+            other_off,
+            len,
+        } => exchange_in(mounted, path, off, other, other_off, len),
+        Call::Unlink { path } => remove_in(mounted, path, Kind::File),
+        Call::Rmdir { path } => remove_in(mounted, path, Kind::Directory),
+        Call::Rename { path, to } => rename_in(mounted, path, to),
         _ => unreachable!(),
     }
 }
 
 impl<D: Pm> Fs<D> {
-    /// Makes a call that changes the tree. Today these are `Create` and `Mkdir`.
+    /// Makes a call that changes the tree.
     ///
     /// # Errors
     ///
@@ -89,5 +115,159 @@ impl<D: Pm> Fs<D> {
             → OnOk result (IsSomeAnd (ready_in self.new.state) (λ now. Places (D.words was.dev) (D.words now.dev) (mkdir_call path.now))) }
     {
         self.change(&Call::Mkdir { path })
+    }
+    /// Writes bytes to a file from an offset on, and zeros before them where it is shorter. No bytes change nothing.
+    ///
+    /// # Errors
+    ///
+    /// As [`Fs::change`].
+    pub fn write(&mut self, path: &[u8], off: u64, bytes: &[u8]) -> Result<(), FsError>
+        ensures dead { IsNone (mounts self.old) ↔ (result ≡ Err FsError.Dead) }
+        ensures still { IsNone (mounts self.old) → self.new.state ≡ self.old.state }
+        ensures does { (was : Volume D) → mounts self.old ≡ Some was → (t : Tree) → StandsFor (D.words was.dev) t
+            → Does was t (write_call path.now off bytes.now) self.new.state result }
+        ensures places { (was : Volume D) → mounts self.old ≡ Some was
+            → OnOk result (IsSomeAnd (ready_in self.new.state) (λ now. Places (D.words was.dev) (D.words now.dev) (write_call path.now off bytes.now))) }
+    {
+        self.change(&Call::Write { path, off, bytes })
+    }
+
+    /// Writes so many of one byte to a file from an offset on.
+    ///
+    /// # Errors
+    ///
+    /// As [`Fs::change`].
+    pub fn fill(&mut self, path: &[u8], off: u64, len: u64, byte: u8) -> Result<(), FsError>
+        ensures dead { IsNone (mounts self.old) ↔ (result ≡ Err FsError.Dead) }
+        ensures still { IsNone (mounts self.old) → self.new.state ≡ self.old.state }
+        ensures does { (was : Volume D) → mounts self.old ≡ Some was → (t : Tree) → StandsFor (D.words was.dev) t
+            → Does was t (fill_call path.now off len byte) self.new.state result }
+        ensures places { (was : Volume D) → mounts self.old ≡ Some was
+            → OnOk result (IsSomeAnd (ready_in self.new.state) (λ now. Places (D.words was.dev) (D.words now.dev) (fill_call path.now off len byte))) }
+    {
+        self.change(&Call::Fill {
+            path,
+            off,
+            len,
+            byte,
+        })
+    }
+
+    /// Writes bytes behind the last one of a file.
+    ///
+    /// # Errors
+    ///
+    /// As [`Fs::change`].
+    pub fn append(&mut self, path: &[u8], bytes: &[u8]) -> Result<(), FsError>
+        ensures dead { IsNone (mounts self.old) ↔ (result ≡ Err FsError.Dead) }
+        ensures still { IsNone (mounts self.old) → self.new.state ≡ self.old.state }
+        ensures does { (was : Volume D) → mounts self.old ≡ Some was → (t : Tree) → StandsFor (D.words was.dev) t
+            → Does was t (append_call path.now bytes.now) self.new.state result }
+        ensures places { (was : Volume D) → mounts self.old ≡ Some was
+            → OnOk result (IsSomeAnd (ready_in self.new.state) (λ now. Places (D.words was.dev) (D.words now.dev) (append_call path.now bytes.now))) }
+    {
+        self.change(&Call::Append { path, bytes })
+    }
+
+    /// Gives a file a length: what it has past it is gone, and where it was shorter zeros follow.
+    ///
+    /// # Errors
+    ///
+    /// As [`Fs::change`].
+    pub fn truncate(&mut self, path: &[u8], len: u64) -> Result<(), FsError>
+        ensures dead { IsNone (mounts self.old) ↔ (result ≡ Err FsError.Dead) }
+        ensures still { IsNone (mounts self.old) → self.new.state ≡ self.old.state }
+        ensures does { (was : Volume D) → mounts self.old ≡ Some was → (t : Tree) → StandsFor (D.words was.dev) t
+            → Does was t (truncate_call path.now len) self.new.state result }
+        ensures places { (was : Volume D) → mounts self.old ≡ Some was
+            → OnOk result (IsSomeAnd (ready_in self.new.state) (λ now. Places (D.words was.dev) (D.words now.dev) (truncate_call path.now len))) }
+    {
+        self.change(&Call::Truncate { path, len })
+    }
+
+    /// Exchanges `len` bytes of two files, or of one, from an offset of each on: whole pages within both files, which do not
+    /// meet. No byte is copied.
+    ///
+    /// # Errors
+    ///
+    /// As [`Fs::change`].
+    pub fn exchange(
+        &mut self,
+        path: &[u8],
+        off: u64,
+        other: &[u8],
+        other_off: u64,
+        len: u64,
+    ) -> Result<(), FsError>
+        ensures dead { IsNone (mounts self.old) ↔ (result ≡ Err FsError.Dead) }
+        ensures still { IsNone (mounts self.old) → self.new.state ≡ self.old.state }
+        ensures does { (was : Volume D) → mounts self.old ≡ Some was → (t : Tree) → StandsFor (D.words was.dev) t
+            → Does was t (exchange_call path.now off other.now other_off len) self.new.state result }
+        ensures places { (was : Volume D) → mounts self.old ≡ Some was
+            → OnOk result (IsSomeAnd (ready_in self.new.state) (λ now. Places (D.words was.dev) (D.words now.dev) (exchange_call path.now off other.now other_off len))) }
+        // After Ok the walks of the two ranges have changed places, and all others in root slots 10 to 511 stay.
+        ensures walks { (was : Volume D) → mounts self.old ≡ Some was
+            → OnOk result (IsSomeAnd (ready_in self.new.state) (λ now. SwapsWalks (D.words was.dev) (D.words now.dev) path.now off other.now other_off len)) }
+    {
+        match self.state.take() {
+            Some(State::Ready(mounted)) => {
+                let (state, result) = exchange_in(mounted, path, off, other, other_off, len);
+                put_back(&mut self.state, state);
+                result
+            }
+            Some(State::Dead(failed)) => {
+                put_back(&mut self.state, State::Dead(failed));
+                Err(FsError::Dead)
+            }
+            None => unreachable!(),
+        }
+    }
+
+    /// Removes a file, and gives its partition up.
+    ///
+    /// # Errors
+    ///
+    /// As [`Fs::change`].
+    pub fn unlink(&mut self, path: &[u8]) -> Result<(), FsError>
+        ensures dead { IsNone (mounts self.old) ↔ (result ≡ Err FsError.Dead) }
+        ensures still { IsNone (mounts self.old) → self.new.state ≡ self.old.state }
+        ensures does { (was : Volume D) → mounts self.old ≡ Some was → (t : Tree) → StandsFor (D.words was.dev) t
+            → Does was t (unlink_call path.now) self.new.state result }
+        ensures places { (was : Volume D) → mounts self.old ≡ Some was
+            → OnOk result (IsSomeAnd (ready_in self.new.state) (λ now. Places (D.words was.dev) (D.words now.dev) (unlink_call path.now))) }
+    {
+        self.change(&Call::Unlink { path })
+    }
+
+    /// Removes an empty directory, and gives its partition up.
+    ///
+    /// # Errors
+    ///
+    /// As [`Fs::change`].
+    pub fn rmdir(&mut self, path: &[u8]) -> Result<(), FsError>
+        ensures dead { IsNone (mounts self.old) ↔ (result ≡ Err FsError.Dead) }
+        ensures still { IsNone (mounts self.old) → self.new.state ≡ self.old.state }
+        ensures does { (was : Volume D) → mounts self.old ≡ Some was → (t : Tree) → StandsFor (D.words was.dev) t
+            → Does was t (rmdir_call path.now) self.new.state result }
+        ensures places { (was : Volume D) → mounts self.old ≡ Some was
+            → OnOk result (IsSomeAnd (ready_in self.new.state) (λ now. Places (D.words was.dev) (D.words now.dev) (rmdir_call path.now))) }
+    {
+        self.change(&Call::Rmdir { path })
+    }
+
+    /// Gives an object another name. A file or an empty directory that has it goes, where both are files or both directories.
+    ///
+    /// # Errors
+    ///
+    /// As [`Fs::change`].
+    pub fn rename(&mut self, path: &[u8], to: &[u8]) -> Result<(), FsError>
+        ensures dead { IsNone (mounts self.old) ↔ (result ≡ Err FsError.Dead) }
+        ensures still { IsNone (mounts self.old) → self.new.state ≡ self.old.state }
+        ensures does { (was : Volume D) → mounts self.old ≡ Some was → (t : Tree) → StandsFor (D.words was.dev) t
+            → Does was t (rename_call path.now to.now) self.new.state result }
+        ensures places { (was : Volume D) → mounts self.old ≡ Some was
+            → OnOk result (IsSomeAnd (ready_in self.new.state) (λ now. Places (D.words was.dev) (D.words now.dev) (rename_call path.now to.now))) }
+    {
+        self.change(&Call::Rename { path, to })
     }
 }

@@ -5,19 +5,14 @@
 #![tactic(auto)]
 
 mod change;
-mod create;
-mod enter;
 mod formatting;
-mod grow;
-mod image;
 mod look;
-mod mount;
-mod pages;
-mod peek;
-mod plan;
-mod room;
-mod space;
-mod spot;
+mod mounting;
+mod system;
 
+pub use ct_call::{FsError, NoMount, Why};
+pub use ct_look::Stat;
 pub use formatting::format;
-pub use mount::{Fs, FsError, NoMount, Stat, Why};
+pub use mount_stops::Stop;
+pub use mounting::{mount, mount_through};
+pub use system::Fs;

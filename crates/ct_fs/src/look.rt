@@ -1,27 +1,24 @@
 // The calls that only look at what is there.
-ghost use Rattle.std.specs.Prelude.{◌≡◌, ◌≢◌, ◌↔◌, Option, Some, Err, IsNone, MatchOption};
+ghost use Rattle.std.specs.Prelude.{◌≡◌, ◌≢◌, ◌≤◌, ◌↔◌, Option, Some, Err, IsNone, IfSome, MatchOption, IfOk, OnErr, length};
 ghost use Rattle.std.specs.Option.{option_map};
 ghost use Rattle.ct_dir.specs.Directory.{name_in};
-ghost use Rattle.ct_path.specs.Resolves.{refusal_of};
 ghost use Rattle.ct_tree.specs.Checks.{at};
+ghost use Rattle.ct_tree.specs.Content.{bytes_in, range};
 ghost use Rattle.ct_tree.specs.Runs.{MayLieAt};
-ghost use Rattle.ct_tree.specs.Step.{list as list_call, listed_in, locate as locate_call, refusal, size_at, stat as stat_call, step};
+ghost use Rattle.ct_tree.specs.Step.{list as list_call, listed_in, locate as locate_call, read as read_call, read_limit, refusal, size_at, stat as stat_call, step};
 ghost use Rattle.ct_tree.specs.Tree.{Tree};
-ghost use Rattle.ct_fs.specs.Calls.{StandsFor};
-ghost use Rattle.ct_fs.specs.Looks.{IsInodeAt, IsLook, IsPlaceAt, answer_of, next_name, stat_answer};
-ghost use Rattle.ct_fs.specs.Mounted.{IsAtRest, Volume};
-ghost use Rattle.ct_fs.specs.Seen.{mounts};
+ghost use Rattle.ct_call.specs.Calls.{StandsFor};
+ghost use Rattle.ct_look.specs.Content.{IsRead};
+ghost use Rattle.ct_look.specs.Looks.{IsLook, IsPlaceAt, next_name, stat_answer};
+ghost use Rattle.ct_call.specs.Mounted.{Volume};
+ghost use Rattle.ct_base.specs.Walk.{byte};
+ghost use Rattle.ct_fs.specs.Mounts.{device_of, mounts};
 
-use crate::mount::{Fs, FsError, Mounted, Stat, State};
-use ct_base::{Inode, NameBuf};
-use ct_dir::{entries, name_at, next_after};
-use ct_inode::get;
-use ct_path::{PathFault, resolve};
+use crate::system::Fs;
+use ct_base::{NameBuf, Vaddr};
+use ct_call::{FsError, Mounted, State};
+use ct_look::{Stat, answer_of, byte_at, locate_at, next_at, read_at, stat_at};
 use ct_pm::Pm;
-use ct_tree::Refusal;
-
-/// The kind of a directory.
-const DIRECTORY: u64 = 2;
 
 impl<D: Pm> Fs<D> {
     /// What is told of the file or the directory at a path.
@@ -78,6 +75,28 @@ impl<D: Pm> Fs<D> {
         }
     }
 
+    /// Puts the bytes of a file, from an offset on and at most so many, at the front of a buffer; answers their number. The rest
+    /// of the buffer stays. The buffer has room for so many bytes, unless they are more than 1,048,576, which is refused.
+    ///
+    /// # Errors
+    ///
+    /// `Dead` after a fault, and else `Refused` where the path leads to no file or so many bytes are too many. Then the buffer is
+    /// as it was.
+    pub fn read(&self, path: &[u8], off: u64, len: u64, buf: &mut [u8]) -> Result<u64, FsError>
+        requires { len ≤ read_limit → len ≤ length buf.old }
+        ensures dead { IsNone (mounts self.now) ↔ (result ≡ Err FsError.Dead) }
+        ensures faultless { result ≢ Err FsError.Fault }
+        ensures answer { (was : Volume D) → mounts self.now ≡ Some was → (t : Tree) → StandsFor (D.words was.dev) t
+            → IsLook (refusal t (read_call path.now off len)) (IsRead (range (bytes_in (at t path.now)) off len) buf.old buf.new) result }
+        ensures bound { IfOk result (λ count. count ≤ length buf.old) }
+        ensures kept { OnErr result (buf.new ≡ buf.old) }
+    {
+        match self.ready() {
+            Some(mounted) => answer_of(read_at(&mounted.dev, path, off, len, buf)),
+            None => Err(FsError::Dead),
+        }
+    }
+
     // The mount, unless a call has met a fault.
     fn ready(&self) -> Option<&Mounted<D>>
         ensures { MatchOption result (IsNone (mounts self.now)) (λ mounted. mounts self.now ≡ Some mounted.now) }
@@ -88,83 +107,15 @@ impl<D: Pm> Fs<D> {
             None => None,
         }
     }
-}
 
-// The answer of a mount that is ready.
-fn answer_of<T>(seen: Result<T, Refusal>) -> Result<T, FsError>
-    ensures { result ≡ answer_of seen }
-{
-    match seen {
-        Ok(value) => Ok(value),
-        Err(refusal) => Err(FsError::Refused(refusal)),
+    /// The byte at an address, 0 where no page is there; after a fault too.
+    pub fn peek(&self, v: Vaddr) -> u8
+        ensures { IfSome (device_of self.now) (λ dev. result ≡ byte (D.words dev) v) }
+    {
+        match &self.state {
+            Some(State::Ready(mounted)) => byte_at(&mounted.dev, v),
+            Some(State::Dead(failed)) => byte_at(&failed.dev, v),
+            None => unreachable!(),
+        }
     }
-}
-
-// The refusal of a call that a fault of its path stops.
-pub(crate) fn refusal_of(fault: PathFault) -> Refusal
-    ensures { result ≡ refusal_of fault }
-{
-    match fault {
-        PathFault::BadPath => Refusal::BadPath,
-        PathFault::NotFound => Refusal::NotFound,
-        PathFault::NotDir => Refusal::NotDir,
-    }
-}
-
-// The inode to which a path leads.
-fn inode_at<D: Pm>(dev: &D, path: &[u8]) -> Result<Inode, Refusal>
-    requires { IsAtRest (D.words dev.now) }
-    ensures { IsInodeAt (D.words dev.now) path.now result }
-{
-    match resolve(dev, path) {
-        Ok(number) => Ok(get(dev, number)),
-        Err(fault) => Err(refusal_of(fault)),
-    }
-}
-
-// What is told of the object at a path.
-fn stat_at<D: Pm>(dev: &D, path: &[u8]) -> Result<Stat, Refusal>
-    requires { IsAtRest (D.words dev.now) }
-    ensures { (t : Tree) → StandsFor (D.words dev.now) t → answer_of result ≡ stat_answer (step t (stat_call path.now)).0 }
-{
-    let inode = inode_at(dev, path)?;
-    if inode.kind == DIRECTORY {
-        return Ok(Stat::Dir {
-            count: entries(dev, inode),
-        });
-    }
-    Ok(Stat::File { size: inode.size })
-}
-
-// The first name in the directory at a path that is later than another, or of all.
-fn next_at<D: Pm>(dev: &D, path: &[u8], after: Option<&[u8]>) -> Result<Option<NameBuf>, Refusal>
-    requires { IsAtRest (D.words dev.now) }
-    ensures { (t : Tree) → StandsFor (D.words dev.now) t
-        → IsLook (refusal t (list_call path.now))
-        (λ found. option_map (λ name. name.items) found ≡ next_name (name_in after.entry) (listed_in (at t path.now)))
-        (answer_of result) }
-{
-    let inode = inode_at(dev, path)?;
-    if inode.kind != DIRECTORY {
-        return Err(Refusal::NotDir);
-    }
-    match next_after(dev, inode, after) {
-        Some(found) => Ok(Some(name_at(dev, inode, found.offset))),
-        None => Ok(None),
-    }
-}
-
-// The address and the level of the partition of the file at a path.
-fn locate_at<D: Pm>(dev: &D, path: &[u8]) -> Result<(u64, u32), Refusal>
-    requires { IsAtRest (D.words dev.now) }
-    ensures { (t : Tree) → StandsFor (D.words dev.now) t
-        → IsLook (refusal t (locate_call path.now))
-        (λ place. IsPlaceAt (D.words dev.now) path.now place × MayLieAt (size_at t path.now) place.0 place.1)
-        (answer_of result) }
-{
-    let inode = inode_at(dev, path)?;
-    if inode.kind == DIRECTORY {
-        return Err(Refusal::IsDir);
-    }
-    Ok((inode.base, inode.level as u32))
 }

@@ -1,7 +1,7 @@
 use Rattle.std.proofs.Common.{subst, sym}
-use Rattle.ct_fs.specs.Formatting.{IsFormatImage}
+use Rattle.ct_format.specs.Formatting.{IsFormatImage}
 use Rattle.ct_pm.specs.Device.{LeavesOnly}
-use Rattle.ct_fs.proofs.Moments.{any_moment}
+use Rattle.ct_format.proofs.Moments.{any_moment}
 use Rattle.ct_fs.proofs.Ready.{new_keeps, ready_dev}
 use Rattle.ct_fs.proofs.formatting.format.Goals as goal
 

@@ -5,3 +5,7 @@ pub mod Laid
 pub mod Once
 pub mod Shown
 pub mod Tail
+pub mod Bounded
+pub mod Taken
+pub mod Counted
+pub mod Fitting

@@ -2,28 +2,22 @@
 use Rattle.std.proofs.Common.{◌≡◌, ◌⊎◌, ℕ, List, Option, Some, None, refl, sym, ap, subst, inl, true≢false, arith}
 use Rattle.std.specs.Prelude.{IsSome, IsSomeAnd}
 use Rattle.std.proofs.lemmas.Option.{none-some, same_Some}
-use Rattle.ct_fs.proofs.Landed.{shut_crash}
-use Rattle.ct_fs.proofs.Resting.{rest_lands}
-use Rattle.ct_base.specs.Format.{IsFormatted}
-use Rattle.ct_fs.specs.Calls.{Holds, Keeps}
-use Rattle.ct_fs.specs.Formatting.{Formats, IsFormatWord}
-use Rattle.ct_fs.specs.Made.{IsNew}
-use Rattle.ct_fs.specs.Mounted.{Volume}
-use Rattle.ct_fs.specs.Seen.{dev_in, device_in, faults_in, fs_dev, ready_in}
-use Rattle.ct_fs.specs.declared.mount.Fs.{Fs}
-use Rattle.ct_fs.specs.declared.mount.State.{State}
-use Rattle.ct_fs.specs.declared.mount.State.TheVariants.{Ready, Dead}
+use Rattle.ct_call.proofs.Landed.{shut_crash}
+use Rattle.ct_call.proofs.Resting.{rest_lands}
+use Rattle.ct_call.specs.Calls.{Holds, Keeps}
+use Rattle.ct_call.specs.Mounted.{Volume}
+use Rattle.ct_call.specs.Seen.{dev_in, device_in, faults_in, ready_in}
+use Rattle.ct_call.specs.declared.mount.State.{State}
+use Rattle.ct_call.specs.declared.mount.State.TheVariants.{Ready, Dead}
 use Rattle.ct_pm.proofs.OneWord.{Replays}
 use Rattle.ct_pm.proofs.Phases.{crash_weaker, phase_here}
-use Rattle.ct_pm.specs.Device.{EachNow, SameOff}
+use Rattle.ct_pm.specs.Device.{EachNow}
 use Rattle.ct_pm.specs.Images.{History}
 use Rattle.ct_pm.specs.Phase.{Crash}
 use Rattle.ct_record.proofs.Moments.{each_settled}
 use Rattle.ct_tree.specs.Lands.{Lands}
 use Rattle.ct_tree.specs.Tree.{Tree}
-use Rattle.ct_shell.specs.Ends.{IsMade}
-use Rattle.ct_shell.specs.Moments.{Moment, RestsOn, Works, moment, moment_in, most_pairs}
-use Rattle.ct_shell.specs.Served.{mem_inodes}
+use Rattle.ct_shell.specs.Moments.{Moment, RestsOn, Works, moment, moment_in}
 
 -- what there is, where it has a property
 pub some_and : {A : Type 0} {P : A → Type 0} (o : Option A) → IsSomeAnd o P → (x : A) × (o ≡ Some x) × P x
@@ -66,32 +60,20 @@ each_wider None P Q wider now = tt
 each_wider (Some h) P Q wider now = λ image allowed. wider image (now image allowed)
 
 -- nothing is done over a tree
-pub stays : (c : ℕ) (t : Tree) (here : Moment) → RestsOn c t here → Works t t here here
-stays c t here rests =
+pub stays : (most c : ℕ) (t : Tree) (here : Moment) → RestsOn c t here → Works most t t here here
+stays most c t here rests =
     let Either : List ℕ → Type 0 = λ image. Lands image t ⊎ Lands image t in
-    let wider : (image : List ℕ) → Crash (λ image. Lands image t) most_pairs image → Crash Either most_pairs image = λ image crash. crash_weaker Either (λ lands. inl lands) (omega arith) crash in
-    phase_here here.told Either (each_wider here.told (Crash (λ image. Lands image t) most_pairs) (Crash Either most_pairs) wider rests.images) (wider here.words rests.words)
+    let wider : (image : List ℕ) → Crash (λ image. Lands image t) 0 image → Crash Either most image = λ image crash. crash_weaker Either (λ lands. inl lands) (omega arith) crash in
+    phase_here here.told Either (each_wider here.told (Crash (λ image. Lands image t) 0) (Crash Either most) wider rests.images) (wider here.words rests.words)
 
 -- a device that holds a tree rests on it
 pub holds_rests : {count : ℕ} {t : Tree} {words : List ℕ} {told : Option History} → Replays told words → Holds count t words told → RestsOn count t (moment told words)
 holds_rests {t = t} {words = words} {told = told} replays h =
-    let here : Crash (λ image. Lands image t) most_pairs words = shut_crash words h.rest.shut (rest_lands h.rest h.stands) in
-    record { holds = h; replays = replays; images = each_settled told words (Crash (λ image. Lands image t) most_pairs) replays h.lasts here; words = here }
+    let here : Crash (λ image. Lands image t) 0 words = shut_crash words h.rest.shut (rest_lands h.rest h.stands) in
+    record { holds = h; replays = replays; images = each_settled told words (Crash (λ image. Lands image t) 0) replays h.lasts here; words = here }
 
 -- and so does a mount that keeps one
 pub keeps_rests : {D : Type 0} {bound : _} (count : ℕ) (state : Option (State D bound)) (t : Tree) (replays : (dev : D) → Replays (bound.told dev) (bound.words dev)) → Keeps count state t → RestsOn count t (moment_in state)
 keeps_rests count state t replays keeps =
     let h = held count state t keeps in
     subst (RestsOn count t) (sym (ready_moment state h.0 h.1)) (holds_rests (replays h.0.dev) h.2)
-
--- a file system that was made stands from then on
-pub made_at : {D : Type 0} {bound : _} (pages : ℕ) (fs : Fs D bound) (words : List ℕ) (old : Option History) → IsSomeAnd (ready_in fs.state) (λ now. IsNew (bound.words now.dev) now.frames pages mem_inodes)
-    → Formats words old (bound.told (fs_dev fs)) → SameOff IsFormatWord (bound.words (fs_dev fs)) words → IsMade pages (moment old words) (moment_in fs.state)
-made_at pages fs words old new moments others =
-    let now = some_and (ready_in fs.state) new in
-    let same = dev_moment fs.state fs.here in
-    record {
-      moments = subst (λ (m : Moment). Formats words old m.told) same moments;
-      formatted = subst (λ (m : Moment). IsFormatted m.words pages mem_inodes) (sym (ready_moment fs.state now.0 now.1)) now.2.formatted;
-      others = subst (λ (m : Moment). SameOff IsFormatWord m.words words) same others;
-    }

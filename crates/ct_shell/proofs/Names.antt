@@ -8,9 +8,9 @@ use Rattle.std.proofs.lemmas.Cmp.{nat_list_cmp_total, tied_itself}
 use Rattle.std.specs.declared.cmp.Ordering.TheVariants.{Less}
 use Rattle.ct_base.specs.Path.{name_cmp}
 use Rattle.ct_dir.proofs.Choosing.{greater_later}
-use Rattle.ct_fs.specs.Looks.{IsLook, is_later, is_less, next_name, stat_answer}
-use Rattle.ct_fs.specs.declared.mount.FsError.{FsError}
-use Rattle.ct_fs.specs.declared.mount.Stat.{Stat}
+use Rattle.ct_look.specs.Looks.{IsLook, is_later, is_less, next_name, stat_answer}
+use Rattle.ct_call.specs.declared.mount.FsError.{FsError}
+use Rattle.ct_look.specs.declared.seen.Stat.{Stat}
 use Rattle.ct_script.proofs.Puts.{appends_then, fault_after, fault_first}
 use Rattle.ct_script.specs.Texts.{name_text, reply_line}
 use Rattle.ct_tree.proofs.Ordered.{resolve_tree}

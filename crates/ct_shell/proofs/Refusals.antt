@@ -4,7 +4,7 @@ use Rattle.std.specs.Prelude.{◌+◌, ◌&&◌, if◌then◌else◌, is_none, i
 use Rattle.std.specs.Option.{ok_or}
 use Rattle.std.specs.Str.{bytes_eq}
 use Rattle.ct_base.specs.Path.{names_of}
-use Rattle.ct_fs.specs.Answers.{IsRefused}
+use Rattle.ct_call.specs.Answers.{IsRefused}
 use Rattle.ct_tree.specs.Checks.{above, are_ranges, at, bad_path, bad_range, exists, exists_in, first_of, has_entries, has_none, in_the_way, into_self, is_dir, is_root, names, no_dir, no_file, no_node, overlap, parent_at, refuse_if, unlike}
 use Rattle.ct_tree.specs.Content.{bytes_in}
 use Rattle.ct_tree.specs.Entries.{lookup}

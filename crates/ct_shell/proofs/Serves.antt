@@ -1,8 +1,8 @@
 -- Runs one after another, with what they write.
 use Rattle.std.proofs.Common.{◌≡◌, ◌∙◌, ℕ, ◌+◌, ◌<◌, ◌≤◌, Bool, true, false, arith, List, [], ◌∷◌, ◌++◌, length, take, refl, sym, ap, subst, append_assoc, append-nil, Some, None, Option, inl, inr, ◌⊎◌}
-use Rattle.std.specs.Prelude.{map, nat_lt}
+use Rattle.std.specs.Prelude.{nat_lt}
 use Rattle.std.proofs.lemmas.Bool.Decides.{nat_tests}
-use Rattle.std.proofs.lemmas.List.{map-append, take_all}
+use Rattle.std.proofs.lemmas.List.{take_all}
 use Rattle.std.specs.Borrow.{Bor}
 use Rattle.std.specs.List.{flat_map}
 use Rattle.std.specs.Io.KnownBytes.{Appends}
@@ -11,11 +11,9 @@ use Rattle.ct_tree.specs.Runs.{Item, Runs, bad, call}
 use Rattle.ct_base.specs.Split.{IsFirstPart}
 use Rattle.ct_tree.specs.declared.call.Reply.{Reply}
 use Rattle.ct_script.proofs.Puts.{appends_nil, appends_then}
-use Rattle.ct_script.specs.Script.{items, items_of, lines, whole}
+use Rattle.ct_script.specs.Script.{items, items_of, lines}
 use Rattle.ct_script.specs.Texts.{reply_line, text}
-use Rattle.ct_shell.specs.Ends.{Waits}
 use Rattle.ct_shell.specs.Moments.{IsBegun, Moment, Passed, Passes}
-use Rattle.ct_shell.specs.Script.{built}
 use Rattle.ct_shell.specs.Served.{Ran, Served, Stopped, StoppedBy}
 use Rattle.ct_shell.specs.declared.call.ServeEnd.{ServeEnd}
 use Rattle.ct_shell.specs.declared.call.ServeEnd.TheVariants.{Device, Output}
@@ -168,16 +166,16 @@ module _ (c : ℕ) (start t : Tree) (all xs more : List Item) (a b d : Option (L
 
 -- the items that are served of a line, and those of the lines after it
 abbrev pub served_items : List ℕ → List Item
-served_items script = map built (items script)
+served_items script = items script
 
 abbrev pub line_items : List ℕ → List Item
-line_items line = map built (items_of line)
+line_items line = items_of line
 
 items_first : (rest line more : List ℕ) → lines rest ≡ line ∷ lines more → served_items rest ≡ line_items line ++ served_items more
-items_first rest line more h = ap (λ ls. map built (flat_map items_of ls)) h ∙ map-append built (items_of line) (items more)
+items_first rest line more h = ap (λ ls. flat_map items_of ls) h
 
 items_last : (rest line : List ℕ) → lines rest ≡ line ∷ [] → served_items rest ≡ line_items line ++ []
-items_last rest line h = ap (λ ls. map built (flat_map items_of ls)) h ∙ map-append built (items_of line) []
+items_last rest line h = ap (λ ls. flat_map items_of ls) h
 
 pub first_some : (rest line : List ℕ) (o : Option (Bor (List ℕ))) (more : Bor (List ℕ)) → IsFirstPart 10 rest line o → o ≡ Some more → (served_items rest ≡ line_items line ++ served_items more.now) × (length more.now < length rest)
 first_some rest line o more f is =
@@ -201,7 +199,3 @@ module _ (c : ℕ) (start t : Tree) (all : List Item) (rest line : List ℕ) (mo
 
   pub line_stopped : {end : ServeEnd} → StoppedBy end c t (line_items line) b d g h → StoppedBy end c start all a d f h
   line_stopped u = stopped_by_more c start t all (line_items line) more a b d f g h here u
-
--- no item was served
-pub waits : (c : ℕ) (t : Tree) (given : List ℕ) (a : Option (List ℕ)) (f : Moment) → Waits c t given a a f f
-waits c t given a f = record { stopped = stopped_still c t (map built (whole given)) a f; unwritten = refl; still = refl }

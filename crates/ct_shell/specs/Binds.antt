@@ -1,7 +1,7 @@
 -- What the reply to an item tells of the words as they read when it is made.
 use Rattle.std.specs.Prelude.{◌≡◌, ℕ, List, Some, None}
-use Rattle.ct_fs.specs.Answers.{CanStart, ForSpace}
-use Rattle.ct_fs.specs.Looks.{IsPlaceAt}
+use Rattle.ct_call.specs.Answers.{CanStart, ForSpace}
+use Rattle.ct_look.specs.Looks.{IsPlaceAt}
 use Rattle.ct_tree.specs.Runs.{Item, bad, call}
 use Rattle.ct_tree.specs.Step.{Op, locate, refusal}
 use Rattle.ct_tree.specs.Tree.{Tree}

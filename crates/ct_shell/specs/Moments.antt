@@ -1,9 +1,10 @@
 -- What is seen of a device at a moment, and what a crash may leave while items are answered.
 use Rattle.std.specs.Prelude.{◌≡◌, ◌⊎◌, ℕ, List, [], ◌∷◌, Some, None, IfSome}
 use Rattle.std.specs.declared.option.Option.{Option}
-use Rattle.ct_fs.specs.Calls.{Holds}
-use Rattle.ct_fs.specs.declared.mount.State.{State}
-use Rattle.ct_fs.specs.declared.mount.State.TheVariants.{Ready, Dead}
+use Rattle.ct_call.specs.Calls.{Holds, most_pairs as call_pairs}
+use Rattle.ct_call.specs.Placed.{Places}
+use Rattle.ct_call.specs.declared.mount.State.{State}
+use Rattle.ct_call.specs.declared.mount.State.TheVariants.{Ready, Dead}
 use Rattle.ct_pm.specs.Device.{EachNow}
 use Rattle.ct_pm.specs.Images.{History, reads}
 use Rattle.ct_pm.specs.Phase.{Crash, Phase}
@@ -29,27 +30,33 @@ moment_in None = moment None []
 moment_in {bound = bound} (Some (Ready mounted)) = moment (bound.told mounted.dev) (bound.words mounted.dev)
 moment_in {bound = bound} (Some (Dead failed)) = moment (bound.told failed.dev) (bound.words failed.dev)
 
--- the most pairs of a long record
-abbrev pub most_pairs : ℕ
-most_pairs = 5111
+-- the most pairs of a long record while an item is answered
+abbrev pub most_pairs : Item → ℕ
+most_pairs bad = 5111
+most_pairs (call op) = call_pairs op
 
 -- The device holds the tree, and has c inodes; the words are those of its history. They, and whatever a crash may leave now, land
--- on the tree, with a lawful record of few pairs of which none names a word of a live file's page.
+-- on the tree, and no record is open.
 pub record RestsOn (c : ℕ) (t : Tree) (here : Moment) : Type 0 where
   pub holds : Holds c t here.words here.told
   pub replays : IfSome here.told (λ h. here.words ≡ reads h)
-  pub images : EachNow here.told (Crash (λ image. Lands image t) most_pairs)
-  pub words : Crash (λ image. Lands image t) most_pairs here.words
+  pub images : EachNow here.told (Crash (λ image. Lands image t) 0)
+  pub words : Crash (λ image. Lands image t) 0 here.words
 
--- From one moment to another a crash leaves what lands on one tree or on the other, with such a record; so do the words as they
--- read in the end; and no step stores on a page of a live file.
-abbrev pub Works : Tree → Tree → Moment → Moment → Type 0
-Works t left from to = Phase (λ image. Lands image t ⊎ Lands image left) most_pairs from.told to.told to.words
+-- From one moment to another a crash leaves what lands on one tree or on the other, with a lawful record of so many pairs at
+-- most; so do the words as they read in the end; and no step stores on a page of a live file.
+abbrev pub Works : ℕ → Tree → Tree → Moment → Moment → Type 0
+Works most t left from to = Phase (λ image. Lands image t ⊎ Lands image left) most from.told to.told to.words
 
 -- a reply other than ok was made with no step
 abbrev pub IsStill : Reply → Moment → Moment → Type 0
 IsStill Done from to = Unit {0}
 IsStill reply from to = to ≡ from
+
+-- what a call that is done made is where it belongs, and it took no page more than it needs
+abbrev pub PlacesOf : Item → Reply → List ℕ → List ℕ → Type 0
+PlacesOf (call op) Done old new = Places old new op
+PlacesOf item reply old new = Unit {0}
 
 -- The item had the reply, which tells of the words as they read before. When it was answered, all lands on the tree that it
 -- left; meanwhile on that or on the tree before.
@@ -57,7 +64,8 @@ pub record Passed (c : ℕ) (t : Tree) (item : Item) (reply : Reply) (left : Tre
   pub answers : Answers c t item reply left
   pub binds : Binds from.words t item reply
   pub still : IsStill reply from to
-  pub works : Works t left from to
+  pub placed : PlacesOf item reply from.words to.words
+  pub works : Works (most_pairs item) t left from to
   pub rests : RestsOn c left to
 
 -- the items had these replies, one after another, with a moment for each
@@ -71,7 +79,7 @@ Passes c t (item ∷ items) [] t' from to = ⊥
 abbrev pub IsBegun : Tree → List Item → Moment → Moment → Type 0
 IsBegun t [] from to = ⊥
 IsBegun t (bad ∷ items) from to = ⊥
-IsBegun t (call op ∷ items) from to = Works t (step t op).1 from to
+IsBegun t (call op ∷ items) from to = Works (most_pairs (call op)) t (step t op).1 from to
 
 -- From some moment on a file system stood, which held the tree; and Then holds of that moment.
 pub record Begins (c : ℕ) (t : Tree) (Before Then : Moment → Type 0) : Type 0 where

@@ -1,18 +1,17 @@
--- Which calls of a script are served.
-use Rattle.std.specs.Prelude.{Bool, true, false, if◌then◌else◌}
-use Rattle.ct_tree.specs.Runs.{Item, call, bad}
-use Rattle.ct_tree.specs.Step.{Op, create, mkdir, stat, list, locate}
+-- Which calls of a script change the tree.
+use Rattle.std.specs.Prelude.{Bool, true, false}
+use Rattle.ct_tree.specs.Step.{Op, append, create, exchange, fill, mkdir, rename, rmdir, truncate, unlink, write}
 
--- whether the file system has the call yet
-abbrev pub is_built : Op → Bool
-is_built (create path) = true
-is_built (mkdir path) = true
-is_built (stat path) = true
-is_built (list path) = true
-is_built (locate path) = true
-is_built op = false
-
--- a call that is not built is a bad line
-abbrev pub built : Item → Item
-built bad = bad
-built (call op) = if is_built op then call op else bad
+-- whether a call changes the tree
+abbrev pub is_change : Op → Bool
+is_change (create path) = true
+is_change (mkdir path) = true
+is_change (write path off bytes) = true
+is_change (fill path off len byte) = true
+is_change (append path bytes) = true
+is_change (truncate path len) = true
+is_change (unlink path) = true
+is_change (rmdir path) = true
+is_change (rename path to) = true
+is_change (exchange path off other other_off len) = true
+is_change op = false

@@ -1,13 +1,12 @@
 -- What a run has done of its items, by the tree, the replies and what was written.
-use Rattle.std.specs.Prelude.{◌≡◌, ◌⊎◌, ℕ, ◌++◌, ◌-◌, ◌≤◌, Bool, false, List, [], ◌∷◌, length, take, codes, Err, OnOk, IfErr}
-use Rattle.std.specs.Str.{bytes_eq}
+use Rattle.std.specs.Prelude.{◌≡◌, ◌⊎◌, ℕ, ◌++◌, ◌-◌, ◌≤◌, List, [], length, take, Err, OnOk, IfErr}
 use Rattle.std.specs.Io.KnownBytes.{Appends}
 use Rattle.std.specs.declared.option.Option.{Option}
 use Rattle.std.specs.declared.result.Result.{Result}
 use Rattle.ct_base.specs.Causes.{Rose}
-use Rattle.ct_fs.specs.Calls.{Keeps}
-use Rattle.ct_fs.specs.Seen.{faults_in}
-use Rattle.ct_fs.specs.declared.mount.State.{State}
+use Rattle.ct_call.specs.Calls.{Keeps}
+use Rattle.ct_call.specs.Seen.{faults_in}
+use Rattle.ct_call.specs.declared.mount.State.{State}
 use Rattle.ct_script.specs.Texts.{text}
 use Rattle.ct_tree.specs.Tree.{Tree}
 use Rattle.ct_tree.specs.Runs.{Item, Runs}
@@ -15,16 +14,6 @@ use Rattle.ct_tree.specs.declared.call.Reply.{Reply}
 use Rattle.ct_shell.specs.Moments.{IsBegun, Moment, Passes, moment_in}
 use Rattle.ct_shell.specs.declared.call.ServeEnd.{ServeEnd}
 use Rattle.ct_shell.specs.declared.call.ServeEnd.TheVariants.{Device, Output}
-
--- whether the words are the one word mem
-abbrev pub is_mem : List (List ℕ) → Bool
-is_mem [] = false
-is_mem (word ∷ []) = bytes_eq word (codes "mem")
-is_mem (word ∷ other ∷ words) = false
-
--- how many inodes its file system has
-abbrev pub mem_inodes : ℕ
-mem_inodes = 1024
 
 -- The items before the rest had these replies; meanwhile the device went on from one moment to another.
 pub record Ran (c : ℕ) (start left : Tree) (all rest : List Item) (replies : List Reply) (from to : Moment) : Type 0 where

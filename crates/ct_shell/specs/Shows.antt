@@ -3,13 +3,13 @@ use Rattle.std.specs.Prelude.{ℕ, ◌≤◌, [], ◌∷◌, Ok, Err, Some, None
 use Rattle.std.specs.declared.option.Option.{Option}
 use Rattle.std.specs.declared.result.Result.{Result}
 use Rattle.ct_base.specs.Causes.{Rose}
-use Rattle.ct_fs.specs.Calls.{Keeps}
-use Rattle.ct_fs.specs.Seen.{faults_in}
-use Rattle.ct_fs.specs.declared.mount.FsError.{FsError}
-use Rattle.ct_fs.specs.declared.mount.FsError.TheVariants.{Dead, Refused as refused, Fault}
-use Rattle.ct_fs.specs.declared.mount.Stat.{Stat}
-use Rattle.ct_fs.specs.declared.mount.Stat.TheVariants.{File as file, Dir as dir}
-use Rattle.ct_fs.specs.declared.mount.State.{State}
+use Rattle.ct_call.specs.Calls.{Keeps}
+use Rattle.ct_call.specs.Seen.{faults_in}
+use Rattle.ct_call.specs.declared.mount.FsError.{FsError}
+use Rattle.ct_call.specs.declared.mount.FsError.TheVariants.{Dead, Refused as refused, Fault}
+use Rattle.ct_look.specs.declared.seen.Stat.{Stat}
+use Rattle.ct_look.specs.declared.seen.Stat.TheVariants.{File as file, Dir as dir}
+use Rattle.ct_call.specs.declared.mount.State.{State}
 use Rattle.ct_script.specs.Shows.{reply_of}
 use Rattle.ct_script.specs.declared.reply.Shown.{Shown}
 use Rattle.ct_script.specs.declared.reply.Shown.TheVariants.{Done, File, Dir, At, Refused}

@@ -2,21 +2,23 @@
 ghost use Rattle.std.specs.Prelude.{◌≡◌, ◌≢◌, ◌≤◌, ℕ, [], ◌∷◌, Err, MatchOption, true, false};
 ghost use Rattle.ct_base.specs.Bytes.{PutAppends};
 ghost use Rattle.ct_base.specs.Causes.{Rose};
-ghost use Rattle.ct_fs.specs.Calls.{IsChange, Keeps};
+ghost use Rattle.ct_call.specs.Calls.{Keeps};
 ghost use Rattle.ct_script.specs.Shows.{reply_of};
 ghost use Rattle.ct_script.specs.Texts.{reply_line};
 ghost use Rattle.ct_tree.specs.Runs.{call as call_item};
 ghost use Rattle.ct_tree.specs.Step.{op_of};
 ghost use Rattle.ct_tree.specs.Tree.{Tree};
-ghost use Rattle.ct_shell.specs.Script.{built};
+ghost use Rattle.ct_shell.specs.Script.{is_change};
 ghost use Rattle.ct_shell.specs.Served.{Serves};
 ghost use Rattle.ct_shell.specs.Shows.{error_reply, made_reply, place_reply, stat_reply};
 
+use crate::buffers::ReplyBuffers;
 use crate::list::list;
+use crate::read::read;
 use ct_base::Sink;
 use ct_fs::{Fs, FsError, Stat};
 use ct_pm::Pm;
-use ct_script::{Quote, Shown, put_reply};
+use ct_script::{Shown, put_reply};
 use ct_tree::Call;
 
 /// Why a script was not served whole.
@@ -28,25 +30,54 @@ pub enum ServeEnd {
 
 // Whether the call changes the tree, and the file system has it.
 fn is_change(call: &Call<'_>) -> bool
-    ensures yes { result ≡ true → IsChange (op_of call.now) }
-    ensures no { result ≡ false → IsChange (op_of call.now) → ⊥ }
+    ensures { result ≡ is_change (op_of call.now) }
 {
     match *call {
         Call::Create { path: _ } => true,
         Call::Mkdir { path: _ } => true,
-        _ => false,
+        Call::Write {
+            path: _,
+            off: _,
+            bytes: _,
+        } => true,
+        Call::Fill {
+            path: _,
+            off: _,
+            len: _,
+            byte: _,
+        } => true,
+        Call::Append { path: _, bytes: _ } => true,
+        Call::Read {
+            path: _,
+            off: _,
+            len: _,
+        } => false,
+        Call::Truncate { path: _, len: _ } => true,
+        Call::Unlink { path: _ } => true,
+        Call::Rmdir { path: _ } => true,
+        Call::Rename { path: _, to: _ } => true,
+        Call::Exchange {
+            path: _,
+            off: _,
+            other: _,
+            other_off: _,
+            len: _,
+        } => true,
+        Call::Stat { path: _ } => false,
+        Call::List { path: _ } => false,
+        Call::Where { path: _ } => false,
     }
 }
 
-/// Makes a call and writes its reply. A call that the file system does not have yet is answered as a bad line.
+/// Makes a call and writes its reply.
 pub fn serve_call<D: Pm, O: Sink>(
     fs: &mut Fs<D>,
     call: &Call<'_>,
-    quote: &mut Quote,
+    buffers: &mut ReplyBuffers,
     out: &mut O,
 ) -> Result<(), ServeEnd>
     ensures serves { (count : ℕ) (t : Tree) → Keeps count fs.old.state t
-        → Serves count t (built (call_item (op_of call.now)) ∷ []) fs.old.state fs.new.state (O.written out.old) (O.written out.new) result }
+        → Serves count t (call_item (op_of call.now) ∷ []) fs.old.state fs.new.state (O.written out.old) (O.written out.new) result }
     ensures later { O.faults out.old ≤ O.faults out.new }
     ensures fault { result ≡ Err ServeEnd.Output → Rose (O.faults out.old) (O.faults out.new) }
 {
@@ -56,8 +87,11 @@ pub fn serve_call<D: Pm, O: Sink>(
     match *call {
         Call::Stat { path } => send(out, stat_reply(fs.stat(path))),
         Call::Where { path } => send(out, place_reply(fs.locate(path))),
-        Call::List { path } => list(fs, path, quote, out),
-        _ => send(out, Some(Shown::BadLine)),
+        Call::List { path } => list(fs, path, &mut buffers.quote, out),
+        Call::Read { path, off, len } => {
+            read(fs, path, off, len, buffers.bytes.as_mut_slice(), out)
+        }
+        _ => unreachable!(),
     }
 }
 

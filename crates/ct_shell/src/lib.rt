@@ -1,12 +1,15 @@
-//! The top call: words, input and output in, a status out.
+//! A script over a mounted file system: each line a call, each call a reply.
 //!
 //! The one model: a script is a list of items, each a call or a bad line, and these are served one after another over a mount
 //! whose device holds a tree.
 #![tactic(auto)]
 
+mod buffers;
 mod call;
 mod list;
+mod read;
 mod script;
-mod top;
 
-pub use top::{Outcome, Status, run};
+pub use buffers::ReplyBuffers;
+pub use call::ServeEnd;
+pub use script::{ReadEnd, read_all, serve};

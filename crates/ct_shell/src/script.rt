@@ -2,19 +2,19 @@
 ghost use Rattle.std.specs.Prelude.{◌≡◌, ◌<◌, ◌≤◌, ℕ, if◌then◌else◌, [], ◌∷◌, List, length, map, take, IfOk, Err};
 ghost use Rattle.std.specs.Io.KnownBytes.{Consumes, IsAtEnd};
 ghost use Rattle.ct_base.specs.Causes.{Rose};
-ghost use Rattle.ct_fs.specs.Calls.{Keeps};
+ghost use Rattle.ct_call.specs.Calls.{Keeps};
 ghost use Rattle.ct_script.specs.Grammar.{chopped};
 ghost use Rattle.ct_script.specs.Script.{items, items_at, items_of};
 ghost use Rattle.ct_tree.specs.Runs.{Item};
 ghost use Rattle.ct_tree.specs.Tree.{Tree};
-ghost use Rattle.ct_shell.specs.Script.{built};
 ghost use Rattle.ct_shell.specs.Served.{Serves};
 
+use crate::buffers::ReplyBuffers;
 use crate::call::{ServeEnd, send, serve_call};
 use ct_base::{Sink, Source, first_part};
 use ct_fs::Fs;
 use ct_pm::Pm;
-use ct_script::{Quote, Scratch, Shown, parse};
+use ct_script::{Scratch, Shown, parse};
 
 /// Why a script was not read whole.
 #[derive(Clone, Copy, Debug, PartialEq, Eq)]
@@ -60,11 +60,11 @@ fn answer<D: Pm, O: Sink>(
     fs: &mut Fs<D>,
     raw: &[u8],
     scratch: &mut Scratch,
-    quote: &mut Quote,
+    buffers: &mut ReplyBuffers,
     out: &mut O,
 ) -> Result<(), ServeEnd>
     ensures serves { (count : ℕ) (t : Tree) → Keeps count fs.old.state t
-        → Serves count t (map built (items_of raw.now)) fs.old.state fs.new.state (O.written out.old) (O.written out.new) result }
+        → Serves count t (items_of raw.now) fs.old.state fs.new.state (O.written out.old) (O.written out.new) result }
     ensures later { O.faults out.old ≤ O.faults out.new }
     ensures fault { result ≡ Err ServeEnd.Output → Rose (O.faults out.old) (O.faults out.new) }
 {
@@ -72,7 +72,7 @@ fn answer<D: Pm, O: Sink>(
         return Ok(());
     }
     match parse(raw, scratch) {
-        Some(call) => serve_call(fs, &call, quote, out),
+        Some(call) => serve_call(fs, &call, buffers, out),
         None => send(out, Some(Shown::BadLine)),
     }
 }
@@ -82,18 +82,18 @@ pub fn serve<D: Pm, O: Sink>(
     fs: &mut Fs<D>,
     script: &[u8],
     scratch: &mut Scratch,
-    quote: &mut Quote,
+    buffers: &mut ReplyBuffers,
     out: &mut O,
 ) -> Result<(), ServeEnd>
     ensures serves { (count : ℕ) (t : Tree) → Keeps count fs.old.state t
-        → Serves count t (map built (items script.now)) fs.old.state fs.new.state (O.written out.old) (O.written out.new) result }
+        → Serves count t (items script.now) fs.old.state fs.new.state (O.written out.old) (O.written out.new) result }
     ensures later { O.faults out.old ≤ O.faults out.new }
     ensures fault { result ≡ Err ServeEnd.Output → Rose (O.faults out.old) (O.faults out.new) }
 {
     let mut rest = script;
     'lines: loop {
         let (line, more) = first_part(rest, b'\n');
-        match answer(fs, line, scratch, quote, out) {
+        match answer(fs, line, scratch, buffers, out) {
             Ok(()) => {}
             Err(end) => return Err(end),
         }

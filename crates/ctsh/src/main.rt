@@ -1,9 +1,12 @@
 //! `ctsh`: runs the commands of the shell with standard input and output, and ends with the status of the run.
 #![tactic(auto)]
 
+ghost use Rattle.ct_pm.specs.Device.{NothingPending};
+
 use ct_base::{StdSink, StdSource};
-use ct_pm::RamPm;
-use ct_shell::{Status, run};
+use ct_pm::{Pm, RamPm};
+use ct_run::{Status, run};
+use pm_file::{AttachFault, FilePm};
 use std::alloc::Global;
 use std::process::ExitCode;
 use std::{env, io};
@@ -13,18 +16,44 @@ const PAGES: u64 = 4096;
 
 const HELP: &str = "\
 usage: ctsh mem
+       ctsh format IMAGE INODES
+       ctsh run IMAGE
        ctsh --help | --version
 
-mem   makes a file system in memory, runs the script of standard input over it,
-      and writes one line to standard output for each line of the script that is
-      not empty.
+mem     makes a file system in memory, runs the script of standard input over it,
+        and writes one line to standard output for each line of the script that is
+        not empty
+          ctsh mem < first.ctsh
+format  makes an empty file system of all whole 4096-byte pages of a file that is
+        there, 256 to 262144 of them, with so many inodes, 2 to 1048576
+          head -c 64M /dev/zero > disk.img; ctsh format disk.img 4096
+run     mounts the file system in a file, and runs the script as mem does; a call
+        that a crash cut off is done whole or not at all
+          ctsh run disk.img < first.ctsh
 
 Lines of a script:
   create PATH   makes an empty file
   mkdir PATH    makes an empty directory
+  write PATH OFF HEX
+                writes the bytes of hexadecimal digits into a file from OFF on
+  fill PATH OFF LEN BYTE
+                writes LEN times one byte into a file from OFF on
+  append PATH HEX
+                writes the bytes of hexadecimal digits at the end of a file
+  truncate PATH LEN
+                gives a file a length: it is cut, or has zeros behind its bytes
+  exchange PATH OFF OTHER OFF LEN
+                exchanges the pages of two ranges of whole pages
+  unlink PATH   removes a file
+  rmdir PATH    removes an empty directory
+  rename PATH TO
+                gives a file or a directory another path; a file or an empty
+                directory that is there is replaced
   stat PATH     tells the size of a file or the number of entries of a directory
   list PATH     tells the names in a directory
   where PATH    tells the address and the level of a file's partition
+  read PATH OFF LEN
+                tells at most LEN bytes of a file from OFF on, as hexadecimal digits
 Any other line is answered with 'error line'. In a path %XX is the byte XX.
 ";
 
@@ -66,15 +95,40 @@ fn tell(rt: &HostRuntime, text: &str) -> Status {
     }
 }
 
-/// Runs the words over a device in memory.
-fn run_in_memory(rt: &HostRuntime, alloc: Global, words: &[String]) -> Status {
-    let dev = match RamPm::new(alloc, PAGES) {
-        Ok(dev) => dev,
-        Err(_) => return Status::NoMemory,
-    };
+/// The file that the words name for a command.
+fn image_of(words: &[String]) -> Option<&str> {
+    match words {
+        [word, image, ..] if word.as_str() == "run" || word.as_str() == "format" => {
+            Some(image.as_str())
+        }
+        _ => None,
+    }
+}
+
+/// Runs the words over a device, with standard input and output.
+fn run_over<D: Pm + Drop>(rt: &HostRuntime, alloc: Global, words: &[String], dev: D) -> Status
+    requires { NothingPending (D.told dev) }
+{
     let mut input = StdSource::new(rt.reader());
     let mut out = StdSink::new(io::writer(rt));
     run(alloc, words, dev, &mut input, &mut out).status
+}
+
+/// Runs the words over a device in memory.
+fn run_in_memory(rt: &HostRuntime, alloc: Global, words: &[String]) -> Status {
+    match RamPm::new(alloc, PAGES) {
+        Ok(dev) => run_over(rt, alloc, words, dev),
+        Err(_) => Status::NoMemory,
+    }
+}
+
+/// Runs the words over a file, which has to be there.
+fn run_in_file(rt: &HostRuntime, alloc: Global, words: &[String], name: &str) -> Status {
+    match FilePm::attach(rt, alloc, name) {
+        Ok(dev) => run_over(rt, alloc, words, dev),
+        Err(AttachFault::NoMemory) => Status::NoMemory,
+        Err(AttachFault::File) => Status::DeviceFault,
+    }
 }
 
 fn status_of(rt: &HostRuntime) -> Status {
@@ -84,8 +138,11 @@ fn status_of(rt: &HostRuntime) -> Status {
         Err(WordsEnd::NoMemory) => return Status::NoMemory,
         Err(WordsEnd::NotText) => return Status::Usage,
     };
-    match about(&words) {
-        Some(text) => tell(rt, text),
+    if let Some(text) = about(&words) {
+        return tell(rt, text);
+    }
+    match image_of(&words) {
+        Some(name) => run_in_file(rt, alloc, &words, name),
         None => run_in_memory(rt, alloc, &words),
     }
 }

@@ -1,5 +1,5 @@
 use Rattle.std.proofs.Common.{◌≡◌, ◌∙◌, Ok, ap, length, subst}
-use Rattle.ct_fs.specs.Looks.{IsLook}
+use Rattle.ct_look.specs.Looks.{IsLook}
 use Rattle.ct_tree.specs.Checks.{at}
 use Rattle.ct_tree.specs.Step.{list, listed_in, refusal}
 use Rattle.ct_shell.specs.Shows.{entries_of}

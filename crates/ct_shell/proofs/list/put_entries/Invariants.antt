@@ -1,8 +1,8 @@
 use Rattle.std.proofs.Common.{◌≡◌, ◌≤◌, Some, None, length}
 use Rattle.std.specs.Option.{option_map}
-use Rattle.ct_fs.specs.Calls.{StandsFor}
-use Rattle.ct_fs.specs.Mounted.{Volume}
-use Rattle.ct_fs.specs.Seen.{mounts}
+use Rattle.ct_call.specs.Calls.{StandsFor}
+use Rattle.ct_call.specs.Mounted.{Volume}
+use Rattle.ct_fs.specs.Mounts.{mounts}
 use Rattle.ct_tree.specs.Checks.{at}
 use Rattle.ct_tree.specs.Step.{list, listed_in, refusal}
 use Rattle.ct_tree.specs.Tree.{Tree}

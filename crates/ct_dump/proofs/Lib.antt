@@ -1,0 +1,8 @@
+mod Decoded
+pub mod Dumps
+pub mod Entered
+pub mod Holes
+pub mod Pieces
+pub mod Places
+mod Read
+pub mod Rests

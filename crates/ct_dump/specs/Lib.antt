@@ -1,0 +1,4 @@
+pub mod Dumped
+pub mod Dumps
+pub mod Looks
+pub mod Places

@@ -1,0 +1,203 @@
+// The top call.
+ghost use Rattle.std.specs.Prelude.{◌≡◌, ◌≢◌, ◌⊎◌, ◌<◌, ◌≤◌, ◌↔◌, ℕ, None, Some, IsSome, IsSomeAnd, map, length, string_bytes, IfSome};
+ghost use Rattle.ct_base.specs.Causes.{Rose};
+ghost use Rattle.ct_base.specs.View.{inode_count};
+ghost use Rattle.ct_format.specs.Made.{IsMissized};
+ghost use Rattle.ct_mount.specs.Mounting.{IsFirst};
+ghost use Rattle.ct_pm.specs.Device.{NothingPending};
+ghost use Rattle.ct_tree.specs.Lands.{Lands};
+ghost use Rattle.ct_tree.specs.Ordered.{IsTree};
+ghost use Rattle.ct_tree.specs.Tree.{Tree};
+ghost use Rattle.ct_run.specs.Ends.{EndsMem, HasCauses, IsCutShort, IsDoneOrNoMemory, IsServed, IsUnbegun, IsUnserved, IsUnused};
+ghost use Rattle.ct_run.specs.Images.{EndsFormat, EndsRun, IsNoImage, IsRefusal, IsUntouched, Settles};
+ghost use Rattle.ct_run.specs.Words.{TakesScript, command_of};
+ghost use Rattle.ct_run.specs.declared.command.Command.{Command};
+ghost use Rattle.ct_shell.specs.Moments.{moment};
+
+use crate::command::{Command, command_of};
+use crate::serving::{Buffers, serve_on};
+use crate::status::{Outcome, Status, refused};
+use ct_base::{Sink, Source};
+use ct_fs::{format, mount};
+use ct_pm::Pm;
+use std::alloc::Global;
+
+/// How many inodes the file system of `mem` has.
+const INODES: u64 = 1024;
+
+/// Makes a file system of the device, and serves the script of the input over it.
+fn mem<D: Pm, S: Source, O: Sink>(alloc: Global, dev: D, input: &mut S, out: &mut O) -> Outcome<D>
+    requires settled { NothingPending (D.told dev) }
+    ensures usage { result.status ≢ Status.Usage }
+    ensures ends { IsServed result.status → EndsMem result.status (D.page_count dev) input.old input.new out.old out.new
+        (S.rest input.old) (S.rest input.new) (O.written out.old) (O.written out.new)
+        (moment (D.told dev) (D.words dev)) (moment (D.told result.dev) (D.words result.dev)) }
+    ensures unbegun { IsUnbegun result.status → (result.dev ≡ dev) × (input.new ≡ input.old) × (out.new ≡ out.old) }
+    ensures unwritten { IsUnserved result.status → out.new ≡ out.old }
+    ensures not_image { (rule : ℕ) → result.status ≡ Status.NotImage rule → (rule ≡ 0) × IsMissized (D.page_count dev) }
+    ensures refused { (rule : ℕ) → (rule ≡ 0) × IsMissized (D.page_count dev) → IsRefusal rule result.status }
+    ensures later { D.faults dev ≤ D.faults result.dev }
+    ensures causes { HasCauses result.status (D.faults dev) (D.faults result.dev) (S.faults input.old) (S.faults input.new) (O.faults out.old) (O.faults out.new) }
+    ensures too_long { result.status ≡ Status.TooLong → IfSome (S.rest input.old) (λ script. 16777216 < length script) }
+    ensures long { IsSomeAnd (S.rest input.old) (λ script. 16777216 < length script) → IsCutShort result.status }
+{
+    let mut buffers = match Buffers::new(alloc) {
+        Ok(buffers) => buffers,
+        Err(_) => {
+            return Outcome {
+                status: Status::NoMemory,
+                dev,
+            };
+        }
+    };
+    match format(alloc, dev, INODES) {
+        Ok(fs) => serve_on(fs, &mut buffers, input, out),
+        Err(no_mount) => refused(no_mount),
+    }
+}
+
+/// Mounts the device, and serves the script of the input over it.
+fn image<D: Pm, S: Source, O: Sink>(alloc: Global, dev: D, input: &mut S, out: &mut O) -> Outcome<D>
+    requires settled { NothingPending (D.told dev) }
+    ensures usage { result.status ≢ Status.Usage }
+    ensures ends { IsServed result.status → (t : Tree) → IsTree t → Lands (D.words dev) t
+        → EndsRun (inode_count (D.words dev)) t result.status input.old input.new out.old out.new
+        (S.rest input.old) (S.rest input.new) (O.written out.old) (O.written out.new)
+        (moment (D.told dev) (D.words dev)) (moment (D.told result.dev) (D.words result.dev)) }
+    ensures unread { IsUnbegun result.status → IsUnused input.old input.new out.old out.new }
+    ensures untouched { IsUnbegun result.status
+        → (result.dev ≡ dev) ⊎ Settles (moment (D.told dev) (D.words dev)) (moment (D.told result.dev) (D.words result.dev)) }
+    ensures head { (rule : ℕ) → result.status ≡ Status.NotImage rule → rule < 8 → result.dev ≡ dev }
+    ensures unwritten { IsUnserved result.status → out.new ≡ out.old }
+    ensures not_image { (rule : ℕ) → result.status ≡ Status.NotImage rule → IsFirst (D.words dev) rule }
+    ensures refused { (rule : ℕ) → IsFirst (D.words dev) rule → IsRefusal rule result.status }
+    ensures later { D.faults dev ≤ D.faults result.dev }
+    ensures causes { HasCauses result.status (D.faults dev) (D.faults result.dev) (S.faults input.old) (S.faults input.new) (O.faults out.old) (O.faults out.new) }
+    ensures too_long { result.status ≡ Status.TooLong → IfSome (S.rest input.old) (λ script. 16777216 < length script) }
+    ensures long { IsSomeAnd (S.rest input.old) (λ script. 16777216 < length script) → IsCutShort result.status }
+{
+    let mut buffers = match Buffers::new(alloc) {
+        Ok(buffers) => buffers,
+        Err(_) => {
+            return Outcome {
+                status: Status::NoMemory,
+                dev,
+            };
+        }
+    };
+    match mount(alloc, dev) {
+        Ok(fs) => serve_on(fs, &mut buffers, input, out),
+        Err(no_mount) => refused(no_mount),
+    }
+}
+
+/// Makes a file system with so many inodes of the device.
+fn make<D: Pm>(alloc: Global, dev: D, inodes: u64) -> Outcome<D>
+    requires two { 2 ≤ inodes }
+    requires few { inodes ≤ 1048576 }
+    requires settled { NothingPending (D.told dev) }
+    ensures usage { result.status ≢ Status.Usage }
+    ensures ends { IsServed result.status → EndsFormat inodes (D.page_count dev) result.status
+        (moment (D.told dev) (D.words dev)) (moment (D.told result.dev) (D.words result.dev)) }
+    ensures unbegun { IsUnbegun result.status → result.dev ≡ dev }
+    ensures not_image { (rule : ℕ) → result.status ≡ Status.NotImage rule → (rule ≡ 0) × IsMissized (D.page_count dev) }
+    ensures refused { (rule : ℕ) → (rule ≡ 0) × IsMissized (D.page_count dev) → IsRefusal rule result.status }
+    ensures later { D.faults dev ≤ D.faults result.dev }
+    ensures device_fault { result.status ≡ Status.DeviceFault → Rose (D.faults dev) (D.faults result.dev) }
+{
+    match format(alloc, dev, inodes) {
+        Ok(fs) => Outcome {
+            status: Status::Done,
+            dev: fs.unmount(),
+        },
+        Err(no_mount) => refused(no_mount),
+    }
+}
+
+/// Runs the words, with the input and the output that they may use.
+///
+/// `mem` makes a file system with 1,024 inodes of all pages of the device, and `run IMAGE` mounts the one that the device
+/// holds; both serve the script of the input over it. `format IMAGE INODES` makes a file system with so many inodes, and reads
+/// and writes nothing. The device that is handed back holds the tree that the calls left, where the status is `Done`.
+pub fn run<D: Pm, S: Source, O: Sink>(
+    alloc: Global,
+    words: &[String],
+    dev: D,
+    input: &mut S,
+    out: &mut O,
+) -> Outcome<D>
+    requires settled { NothingPending (D.told dev) }
+
+    // The words are no command, exactly.
+    ensures usage { result.status ≡ Status.Usage ↔ (command_of (map (λ w. string_bytes w) words.now) ≡ None) }
+
+    // Memory ran out, the words are no command, or the device is no image for it: then nothing was read or written, and the
+    // device is as it was, but that a mount may have settled it after the rules of the head.
+    ensures unread { IsUnbegun result.status → IsUnused input.old input.new out.old out.new }
+    ensures untouched { IsUnbegun result.status → IsUntouched (command_of (map (λ w. string_bytes w) words.now)) dev result.dev
+        (moment (D.told dev) (D.words dev)) (moment (D.told result.dev) (D.words result.dev)) }
+    ensures head { (rule : ℕ) → result.status ≡ Status.NotImage rule → rule < 8 → result.dev ≡ dev }
+
+    // Else the device failed while the file system was made, and nothing was read or written; or from some moment on it stood.
+    //
+    // Where the run is done, the input was read to its end, what was written are the replies to its items, and the device holds
+    // the tree after them. On any other status they are the replies to some of the items, the last perhaps in part.
+    //
+    // There is a moment for each item: when it is answered, a crash leaves only what lands on the tree after it, and since the
+    // one before on that or on the tree before. So in the end a crash leaves what lands on the tree after the items whose replies
+    // were written, or on the one after one item more. What reads lands so too, on every device, and the replies tell of it.
+    // No step stores on a page of a live file, nor does a record that a crash may leave.
+    ensures mem { command_of (map (λ w. string_bytes w) words.now) ≡ Some Command.Mem → IsServed result.status
+        → EndsMem result.status (D.page_count dev) input.old input.new out.old out.new
+        (S.rest input.old) (S.rest input.new) (O.written out.old) (O.written out.new)
+        (moment (D.told dev) (D.words dev)) (moment (D.told result.dev) (D.words result.dev)) }
+
+    // The same of an image that lands on a tree, with as many inodes as it has: until it is mounted, and where the device fails
+    // before, all that a crash leaves lands on that tree.
+    ensures run { command_of (map (λ w. string_bytes w) words.now) ≡ Some Command.Run → IsServed result.status
+        → (t : Tree) → IsTree t → Lands (D.words dev) t
+        → EndsRun (inode_count (D.words dev)) t result.status input.old input.new out.old out.new
+        (S.rest input.old) (S.rest input.new) (O.written out.old) (O.written out.new)
+        (moment (D.told dev) (D.words dev)) (moment (D.told result.dev) (D.words result.dev)) }
+
+    // An empty file system with so many inodes was made, or the device failed before; nothing was read or written.
+    ensures format { (inodes : ℕ) → command_of (map (λ w. string_bytes w) words.now) ≡ Some (Command.Format inodes) → IsServed result.status
+        → IsUnused input.old input.new out.old out.new × EndsFormat inodes (D.page_count dev) result.status
+        (moment (D.told dev) (D.words dev)) (moment (D.told result.dev) (D.words result.dev)) }
+
+    // No item was served: nothing was written.
+    ensures unwritten { IsUnserved result.status → out.new ≡ out.old }
+
+    // The first mount rule that fails, or that on the device's size where it is to be formatted; exactly, where memory did not run
+    // out before, nor the device fail in the midst of a mount.
+    ensures not_image { (rule : ℕ) → result.status ≡ Status.NotImage rule
+        → IsNoImage (command_of (map (λ w. string_bytes w) words.now)) (D.page_count dev) (D.words dev) rule }
+    ensures refused { (rule : ℕ) → IsNoImage (command_of (map (λ w. string_bytes w) words.now)) (D.page_count dev) (D.words dev) rule
+        → IsRefusal rule result.status }
+
+    // A fault is answered only where that one failed.
+    ensures causes { HasCauses result.status (D.faults dev) (D.faults result.dev) (S.faults input.old) (S.faults input.new) (O.faults out.old) (O.faults out.new) }
+
+    // More than 16777216 bytes came, exactly, where nothing ended the run before.
+    ensures too_long { result.status ≡ Status.TooLong → IfSome (S.rest input.old) (λ script. 16777216 < length script) }
+    ensures long { TakesScript (command_of (map (λ w. string_bytes w) words.now))
+        → IsSomeAnd (S.rest input.old) (λ script. 16777216 < length script) → IsCutShort result.status }
+
+    // With a device that is an image for the command, no fault, and no more bytes than that, it is done.
+    ensures complete { IsSome (command_of (map (λ w. string_bytes w) words.now))
+        → ((rule : ℕ) → IsNoImage (command_of (map (λ w. string_bytes w) words.now)) (D.page_count dev) (D.words dev) rule → ⊥)
+        → (Rose (D.faults dev) (D.faults result.dev) → ⊥)
+        → (Rose (S.faults input.old) (S.faults input.new) → ⊥) → (Rose (O.faults out.old) (O.faults out.new) → ⊥)
+        → (TakesScript (command_of (map (λ w. string_bytes w) words.now)) → IsSomeAnd (S.rest input.old) (λ script. length script ≤ 16777216))
+        → IsDoneOrNoMemory result.status }
+{
+    match command_of(words) {
+        Some(Command::Mem) => mem(alloc, dev, input, out),
+        Some(Command::Run) => image(alloc, dev, input, out),
+        Some(Command::Format { inodes }) => make(alloc, dev, inodes),
+        None => Outcome {
+            status: Status::Usage,
+            dev,
+        },
+    }
+}

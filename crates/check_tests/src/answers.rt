@@ -1,7 +1,8 @@
 ghost use Rattle.ct_base.specs.Head.{HasHead};
 
 use crate::volume::image;
-use ct_check::{CheckFault, are_zero, check, check_head};
+use ct_check::{CheckFault, check, check_head};
+use ct_marks::are_zero;
 use ct_pm::Pm;
 use std::alloc::Global;
 

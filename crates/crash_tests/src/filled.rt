@@ -1,7 +1,7 @@
 // Entries are made until the image is full, and then one more.
 ghost use Rattle.std.specs.Prelude.{◌≤◌, IfSome, IsSomeAnd};
-ghost use Rattle.ct_fs.specs.Calls.{StandsFor};
-ghost use Rattle.ct_fs.specs.Seen.{mounts};
+ghost use Rattle.ct_call.specs.Calls.{StandsFor};
+ghost use Rattle.ct_fs.specs.Mounts.{mounts};
 ghost use Rattle.ct_pm.specs.Ram.{words_of};
 ghost use Rattle.ct_tree.specs.Lands.{Lands};
 ghost use Rattle.ct_tree.specs.Tree.{Dir, Tree, none};

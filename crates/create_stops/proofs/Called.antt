@@ -4,11 +4,11 @@ use Rattle.ct_pm.specs.Phase.{Phase}
 use Rattle.ct_tree.specs.Lands.{Lands}
 use Rattle.ct_tree.specs.Step.{Op}
 use Rattle.ct_tree.specs.Tree.{Tree}
-use Rattle.ct_fs.specs.Calls.{Does, StandsFor, after}
-use Rattle.ct_fs.specs.Mounted.{Volume}
-use Rattle.ct_fs.specs.Seen.{device_in, ready_in}
-use Rattle.ct_fs.specs.declared.mount.FsError.{FsError}
-use Rattle.ct_fs.specs.declared.mount.State.{State}
+use Rattle.ct_call.specs.Calls.{Does, StandsFor, after, most_pairs}
+use Rattle.ct_call.specs.Mounted.{Volume}
+use Rattle.ct_call.specs.Seen.{device_in, ready_in}
+use Rattle.ct_call.specs.declared.mount.FsError.{FsError}
+use Rattle.ct_call.specs.declared.mount.State.{State}
 
 -- whatever the call answers, the words land on a tree
 pub call_lands : {D T : Type 0} {bound : _} (old new : Option (State D bound)) {result : Result T FsError} {op : Op} (dev : D) (t : Tree)
@@ -21,5 +21,5 @@ call_lands {D} {T} {bound} old new {result} {op} dev t stands does left = here (
     here None is none = absurd none
     here (Some was) is st =
         let both : Lands (bound.words dev) t ⊎ Lands (bound.words dev) (after t op) =
-        (subst (λ found. IsSomeAnd found (λ dev. Phase (λ image. Lands image t ⊎ Lands image (after t op)) 5111 (bound.told was.dev) (bound.told dev) (bound.words dev))) (sym left) (does was is t st).phase).reads.has in
+        (subst (λ found. IsSomeAnd found (λ dev. Phase (λ image. Lands image t ⊎ Lands image (after t op)) (most_pairs op) (bound.told was.dev) (bound.told dev) (bound.words dev))) (sym left) (does was is t st).phase).reads.has in
         elim both [ inl lands ↦ (t, lands) | inr lands ↦ (after t op, lands) ]

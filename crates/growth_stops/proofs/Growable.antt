@@ -12,18 +12,19 @@ use Rattle.ct_base.specs.Wants.{Want}
 use Rattle.ct_dir.proofs.Held.{part_bounds}
 use Rattle.ct_frames.specs.Agrees.{Agrees}
 use Rattle.ct_frames.specs.Free.{FreePages, rising}
-use Rattle.ct_fs.proofs.Fresh.{fresh_agrees, new_mounted}
-use Rattle.ct_fs.proofs.Neutral.{grown_rests}
+use Rattle.ct_format.proofs.Fresh.{fresh_agrees, new_mounted}
+use Rattle.ct_call.proofs.Neutral.{grown_rests}
 use Rattle.ct_fs.proofs.Ready.{ready_dev}
-use Rattle.ct_fs.proofs.Resting.{mounted_rest}
-use Rattle.ct_fs.proofs.Rooms.{ready_here}
-use Rattle.ct_fs.proofs.Wanted.{entry_owned}
-use Rattle.ct_fs.specs.Made.{IsNew}
-use Rattle.ct_fs.specs.Mounted.{AreOwned, IsAtRest, IsMounted, Volume}
-use Rattle.ct_fs.specs.Seen.{device_in, device_of, fs_dev, mounts, ready_in}
-use Rattle.ct_fs.specs.declared.mount.Fs.{Fs}
-use Rattle.ct_fs.specs.declared.mount.State.{State}
-use Rattle.ct_fs.specs.declared.mount.State.TheVariants.{Ready, Dead}
+use Rattle.ct_call.proofs.Resting.{mounted_rest}
+use Rattle.ct_call.proofs.Rooms.{ready_here}
+use Rattle.ct_enter.proofs.Wanted.{entry_owned}
+use Rattle.ct_format.specs.Made.{IsNew}
+use Rattle.ct_call.specs.Mounted.{AreOwned, IsAtRest, IsMounted, Volume}
+use Rattle.ct_call.specs.Seen.{device_in, ready_in}
+use Rattle.ct_fs.specs.Mounts.{device_of, fs_dev, mounts}
+use Rattle.ct_fs.specs.declared.system.Fs.{Fs}
+use Rattle.ct_call.specs.declared.mount.State.{State}
+use Rattle.ct_call.specs.declared.mount.State.TheVariants.{Ready, Dead}
 use Rattle.ct_grow.specs.Grown.{CanGrow}
 use Rattle.ct_pm.specs.Device.{NothingPending}
 use Rattle.ct_pm.specs.Images.{History}

@@ -2,7 +2,7 @@
 use Rattle.std.specs.Prelude.{◌≡◌, ◌*◌, ◌↔◌, ℕ, List, Contains, length, slice_index}
 use Rattle.ct_frames.specs.Agrees.{Agrees}
 use Rattle.ct_frames.specs.Free.{FreePages}
-use Rattle.ct_fs.specs.Mounted.{IsAtRest}
+use Rattle.ct_call.specs.Mounted.{IsAtRest}
 
 -- each number that is in one of the lists is in the other
 abbrev pub AreAlike : List ℕ → List ℕ → Type 0

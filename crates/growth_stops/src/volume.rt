@@ -4,7 +4,7 @@ ghost use Rattle.ct_base.specs.Inode.{IsPart, free_parts, inode as inode_at, liv
 ghost use Rattle.ct_base.specs.Plan.{growth_need, next_part, page_want};
 ghost use Rattle.ct_base.specs.View.{inode_count, view};
 ghost use Rattle.ct_frames.specs.Free.{rising};
-ghost use Rattle.ct_fs.specs.Mounted.{AreOwned, IsAtRest, IsMounted, Volume};
+ghost use Rattle.ct_call.specs.Mounted.{AreOwned, IsAtRest, IsMounted, Volume};
 ghost use Rattle.ct_grow.specs.Grown.{CanGrow};
 ghost use Rattle.ct_pm.specs.Device.{NothingPending};
 

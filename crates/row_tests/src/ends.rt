@@ -3,7 +3,7 @@ use ct_base::{MemSink, MemSource, ReadFault, Sink, Source, StdSink, StdSource, W
 use std::test::Fail;
 
 #[test]
-fn ends_in_memory_give_and_take_pieces(rt: HostRuntime) -> Result<(), Fail> {
+fn a_source_in_memory_gives_pieces(rt: HostRuntime) -> Result<(), Fail> {
     let alloc = rt.alloc();
     let mut source = MemSource::new(b"abc".to_vec(alloc)?, 2, vec![in alloc; 1]?);
     let mut buf = [0u8; 4];
@@ -11,6 +11,12 @@ fn ends_in_memory_give_and_take_pieces(rt: HostRuntime) -> Result<(), Fail> {
         assert_eq!(rt; source.next(&mut buf), want);
     }
     assert_eq!(rt; buf, [b'c', b'b', 0, 0]);
+    Ok(())
+}
+
+#[test]
+fn a_sink_in_memory_takes_pieces(rt: HostRuntime) -> Result<(), Fail> {
+    let alloc = rt.alloc();
     let mut sink = MemSink::new(alloc, 4, vec![in alloc; 0]?)?;
     for (bytes, want) in [
         ("ab", Err(WriteFault)),

@@ -4,7 +4,17 @@
 #![tactic(auto)]
 
 #[cfg(test)]
+mod cuts;
+#[cfg(test)]
 mod ends;
+#[cfg(test)]
+mod generated;
+#[cfg(test)]
+mod images;
+#[cfg(test)]
+mod plans;
+#[cfg(test)]
+mod renames;
 #[cfg(test)]
 mod runs;
 #[cfg(test)]

@@ -2,13 +2,14 @@
 ghost use Rattle.std.specs.Prelude.{◌≤◌};
 ghost use Rattle.ct_pm.specs.Device.{NothingPending};
 
-use crate::scripts::ENTRIES;
+use crate::scripts::{BYTES, ENTRIES, NAMES, PLACES};
 use ct_base::{MemSink, MemSource, NoMemory};
 use ct_fs::{Why, format};
 use ct_pm::{Pm, RamPm};
-use ct_shell::{Status, run};
+use ct_run::{Status, run};
 use pm_fuse::FusePm;
 use std::alloc::Global;
+use std::process::Abort;
 use std::test::Fail;
 
 // So many times the byte.
@@ -51,13 +52,35 @@ fn answered(alloc: Global, pages: u64, script: Vec<u8>) -> Result<(Status, MemSi
     )
 }
 
-#[test]
-fn scripts_are_answered(rt: HostRuntime) -> Result<(), Fail> {
-    let alloc = rt.alloc();
-    for (script, replies) in ENTRIES {
+fn check_rows(rt: &impl Abort, alloc: Global, rows: &[(&str, &str)]) -> Result<(), Fail> {
+    for (script, replies) in rows {
         let (status, out) = answered(alloc, 4096, script.as_bytes().to_vec(alloc)?)?;
         assert_eq!(rt; status, Status::Done);
         assert_eq!(rt; out.bytes(), replies.as_bytes(), "{script}");
+    }
+    Ok(())
+}
+
+#[test]
+fn scripts_are_answered(rt: HostRuntime) -> Result<(), Fail> {
+    check_rows(&rt, rt.alloc(), &ENTRIES)?;
+    check_rows(&rt, rt.alloc(), &BYTES)?;
+    check_rows(&rt, rt.alloc(), &NAMES)?;
+    check_rows(&rt, rt.alloc(), &PLACES)
+}
+
+// A file of 400 pages. The bound is 256 pages, 128 for each of the two calls, and two for each page that is written.
+#[test]
+fn a_device_of_the_bound_has_pages_enough(rt: HostRuntime) -> Result<(), Fail> {
+    let alloc = rt.alloc();
+    let script = b"create /a\nfill /a 0 1638400 65\n";
+    for (pages, replies) in [
+        (256 + 2 * 128 + 2 * 400, "ok\nok\n"),
+        (450, "ok\nerror no pages\n"),
+    ] {
+        let (status, out) = answered(alloc, pages, script.to_vec(alloc)?)?;
+        assert_eq!(rt; status, Status::Done);
+        assert_eq!(rt; out.bytes(), replies.as_bytes(), "{pages}");
     }
     Ok(())
 }

@@ -1,12 +1,14 @@
 // Scripts over a tree that begins as an empty root: their lines, and the lines that answer them.
 use ct_base::{MemSink, WriteFault};
+use ct_plain::PlainTree;
 use ct_script::{Quote, Scratch, Shown, parse, put_end, put_name, put_names, put_reply};
-use ct_tree::{NameList, PlainTree, Reply};
+use ct_tree::{NameList, Reply};
 use std::alloc::Global;
+use std::process::Abort;
 use std::test::Fail;
 
 /// Scripts of the calls that make entries and look.
-pub const ENTRIES: [(&str, &str); 7] = [
+pub const ENTRIES: [(&str, &str); 8] = [
     ("create /a\ncreate /a", "ok\nerror exists\n"),
     (
         "create /x/y\ncreate /a\ncreate /a/b",
@@ -17,8 +19,12 @@ pub const ENTRIES: [(&str, &str); 7] = [
         "ok\nok\nok\nnames aa b\ndir 2\ndir 1\nat 0 15\nerror is a directory\nerror not a directory\n",
     ),
     (
-        "create /a\nwhere /a\nlist /\nmkdir /d\nlist /d",
-        "ok\nat 0 15\nnames a\nok\nnames\n",
+        "create /a\nwhere /a\nread /a 0 0\nlist /\nmkdir /d\nlist /d",
+        "ok\nat 0 15\ndata\nnames a\nok\nnames\n",
+    ),
+    (
+        "create /a\nread // 0 1048577\nread /b 0 1048577\nread / 0 1048577\nread /a 0 1048577\nread /a 18446744073709551615 1048576",
+        "ok\nerror bad path\nerror not found\nerror is a directory\nerror too long\ndata\n",
     ),
     (
         "create a\ncreate //\ncreate /a//b\ncreate /a/\nmkdir /.\nstat /a/../b\nlist /a%00\nstat /",
@@ -34,8 +40,8 @@ pub const ENTRIES: [(&str, &str); 7] = [
     ),
 ];
 
-// Scripts of all calls.
-const CALLS: [(&str, &str); 7] = [
+/// Scripts of the calls that change the bytes of files, and that remove what is empty.
+pub const BYTES: [(&str, &str); 5] = [
     (
         "create /a\nfill /a 0 10 65\ntruncate /a 5\nwrite /a 7 6869\nappend /a 21\nstat /a\nread /a 3 100\nread /a 0 0",
         "ok\nok\nok\nok\nok\nfile 10\ndata 41410000686921\ndata\n",
@@ -49,16 +55,64 @@ const CALLS: [(&str, &str); 7] = [
         "ok\nok\nok\nok\ndata 41410000\n",
     ),
     (
+        "create /a\ncreate /b\nfill /a 0 8192 65\nfill /b 0 12288 66\nexchange /a 0 /b 4096 8192\nread /a 0 2\nread /b 4095 2\nexchange /a 100 /b 0 4096\nexchange /b 0 /b 4096 8192",
+        "ok\nok\nok\nok\nok\ndata 4242\ndata 4241\nerror bad range\nerror overlap\n",
+    ),
+    (
+        "mkdir /d\ncreate /d/b\nwrite /d/b 0 41\nrmdir /d\nunlink /d\nrmdir /d/b\nunlink /d/b\nunlink /d/b\nrmdir /d\nrmdir /\nunlink /\nlist /",
+        "ok\nok\nok\nerror not empty\nerror is a directory\nerror not a directory\nok\nerror not found\nok\nerror is the root\nerror is a directory\nnames\n",
+    ),
+];
+
+/// Scripts that tell where a file lies, or how many pages there are: a plain tree has no answer to these.
+pub const PLACES: [(&str, &str); 9] = [
+    (
+        "create /a\nwrite /a 0 6869\nread /a 0 10\nwhere /a",
+        "ok\nok\ndata 6869\nat 5497558142976 0\n",
+    ),
+    (
+        "create /a\nfill /a 0 2097152 65\nwhere /a",
+        "ok\nok\nat 5497560236032 3\n",
+    ),
+    (
+        "create /a\nfill /a 4096 2097152 65\nread /a 4095 2\nread /a 2101247 2",
+        "ok\nok\ndata 0041\ndata 41\n",
+    ),
+    (
+        "create /a\nwrite /a 549755813887 41\nstat /a\nwhere /a\nread /a 549755813886 5\nappend /a 41",
+        "ok\nok\nfile 549755813888\nat 6047313952768 9\ndata 0041\nerror too big\n",
+    ),
+    (
+        "create /a\nfill /a 0 16777216 65\nstat /a\nwrite /a 0 41",
+        "ok\nerror no pages\nfile 0\nok\n",
+    ),
+    (
+        "create /a\nwrite /a 0 41\nwhere /a\ntruncate /a 4097\nwhere /a\nread /a 0 2",
+        "ok\nok\nat 5497558142976 0\nok\nat 5497558171648 1\ndata 4100\n",
+    ),
+    (
+        "create /a\nfill /a 0 262144 65\nappend /a 42\nwhere /a\nread /a 262143 5",
+        "ok\nok\nok\nat 5497560236032 3\ndata 4142\n",
+    ),
+    (
+        "create /a\nfill /a 0 12288 65\ntruncate /a 5000\ntruncate /a 12288\nread /a 4998 4\ntruncate /a 0\nwhere /a\ntruncate /a 3\nread /a 0 9\nunlink /a\ncreate /b\nwrite /b 0 42\nwhere /b",
+        "ok\nok\nok\nok\ndata 41410000\nok\nat 0 15\nok\ndata 000000\nok\nok\nok\nat 5497558142976 0\n",
+    ),
+    (
+        "create /a\ntruncate /a 134217728\ncreate /b\ntruncate /b 134217728\nwrite /a 0 41\nwrite /b 4096 42\nexchange /a 0 /b 4096 4096\nread /a 0 1\nread /b 4096 1\nexchange /a 0 /b 0 2097152\nread /a 4096 1\nread /b 0 1\nexchange /a 4096 /a 134213632 4096\nread /a 134213632 1\nexchange /a 8192 /b 4096 16384000\nexchange /a 8192 /b 4096 16388096\nexchange /a 0 /a 4096 8192\nexchange /a 0 /b 0 0",
+        "ok\nok\nok\nok\nok\nok\nok\ndata 42\ndata 41\nok\ndata 41\ndata 42\nok\ndata 41\nok\nerror too long\nerror overlap\nok\n",
+    ),
+];
+
+/// Scripts with names that change.
+pub const NAMES: [(&str, &str); 3] = [
+    (
         "mkdir /d\nrename /d /d/e\nrename /d /d\nrename / /x",
         "ok\nerror into itself\nok\nerror is the root\n",
     ),
     (
         "mkdir /d\ncreate /d/b\ncreate /d/aa\nrename /d/b /c\nrmdir /d\nunlink /d/aa\nrmdir /d\nlist /",
         "ok\nok\nok\nok\nerror not empty\nok\nok\nnames c\n",
-    ),
-    (
-        "create /a\ncreate /b\nfill /a 0 8192 65\nfill /b 0 12288 66\nexchange /a 0 /b 4096 8192\nread /a 0 2\nread /b 4095 2\nexchange /a 100 /b 0 4096\nexchange /b 0 /b 4096 8192",
-        "ok\nok\nok\nok\nok\ndata 4242\ndata 4241\nerror bad range\nerror overlap\n",
     ),
     (
         "mkdir /home\ncreate /home/notes.txt\nappend /home/notes.txt 48656c6c6f0a\nappend /home/notes.txt 776f726c640a\nread /home/notes.txt 0 64\nstat /home/notes.txt\nrename /home/notes.txt /home/old%20notes\nlist /home\nstat /home\nunlink /home/old%20notes\nrmdir /home\nstat /",
@@ -94,31 +148,55 @@ fn show(out: &mut MemSink, quote: &mut Quote, reply: &Reply) -> Result<(), Write
     put_reply(out, &shown)
 }
 
+// What a plain tree is asked with, line by line.
+#[derive(Drop)]
+struct Asked {
+    tree: PlainTree,
+    scratch: Scratch,
+    quote: Quote,
+    out: MemSink,
+}
+
+impl Asked {
+    fn new(alloc: Global) -> Result<Asked, Fail> {
+        Ok(Asked {
+            tree: PlainTree::new(alloc)?,
+            scratch: Scratch::new(alloc)?,
+            quote: Quote::new(alloc)?,
+            out: MemSink::new(alloc, 1 << 16, Vec::new(alloc))?,
+        })
+    }
+
+    // Writes the line that answers a line.
+    fn ask(&mut self, line: &str) -> Result<(), Fail> {
+        let Some(call) = parse(line.as_bytes(), &mut self.scratch) else {
+            return Ok(put_reply(&mut self.out, &Shown::BadLine)?);
+        };
+        let reply = self.tree.call(&call)?;
+        Ok(show(&mut self.out, &mut self.quote, &reply)?)
+    }
+}
+
 // The lines that answer a script over the plain tree.
 fn answers(alloc: Global, script: &str) -> Result<MemSink, Fail> {
-    let mut tree = PlainTree::new(alloc)?;
-    let mut scratch = Scratch::new(alloc)?;
-    let mut quote = Quote::new(alloc)?;
-    let mut out = MemSink::new(alloc, 1 << 16, Vec::new(alloc))?;
+    let mut asked = Asked::new(alloc)?;
     for line in script.split('\n') {
-        match parse(line.as_bytes(), &mut scratch) {
-            None => put_reply(&mut out, &Shown::BadLine)?,
-            Some(call) => {
-                let reply = tree.call(&call)?;
-                show(&mut out, &mut quote, &reply)?;
-            }
-        }
+        asked.ask(line)?;
     }
-    Ok(out)
+    Ok(asked.out)
+}
+
+fn check_rows(rt: &impl Abort, alloc: Global, rows: &[(&str, &str)]) -> Result<(), Fail> {
+    for (script, want) in rows {
+        let out = answers(alloc, script)?;
+        assert_eq!(rt; out.bytes(), want.as_bytes(), "{script}");
+    }
+    Ok(())
 }
 
 #[test]
 fn the_plain_tree_answers(rt: HostRuntime) -> Result<(), Fail> {
-    for rows in [ENTRIES, CALLS] {
-        for (script, want) in rows {
-            let out = answers(rt.alloc(), script)?;
-            assert_eq!(rt; out.bytes(), want.as_bytes(), "{script}");
-        }
-    }
-    Ok(())
+    check_rows(&rt, rt.alloc(), &ENTRIES)?;
+    check_rows(&rt, rt.alloc(), &BYTES)?;
+    check_rows(&rt, rt.alloc(), &NAMES)
 }

@@ -3,11 +3,11 @@ use Rattle.std.proofs.Common.{◌≡◌, ℕ, ◌+◌, ◌%◌, ◌^◌, ◌≤�
 use Rattle.ct_base.specs.declared.inode.Inode.{Inode}
 use Rattle.ct_base.specs.Inode.{inode, part, part_bytes}
 use Rattle.ct_base.specs.Plan.{write_wants}
-use Rattle.ct_base.specs.View.{view, inode_count}
+use Rattle.ct_base.specs.View.{view}
 use Rattle.ct_base.specs.Wants.{Want, missing}
-use Rattle.ct_fs.proofs.Rooms.{ready_here}
-use Rattle.ct_fs.proofs.Resting.{mounted_rest}
-use Rattle.ct_fs.specs.Mounted.{IsMounted}
+use Rattle.ct_call.proofs.Rooms.{ready_here}
+use Rattle.ct_call.proofs.Resting.{mounted_rest}
+use Rattle.ct_call.specs.Mounted.{IsMounted}
 use Rattle.ct_frames.specs.Free.{FreePages}
 use Rattle.ct_grow.specs.Grown.{IsReady}
 use Rattle.ct_plan.specs.Few.{few_write_wants}

@@ -4,7 +4,7 @@ ghost use Rattle.ct_base.specs.Inode.{inode as inode_at, part};
 ghost use Rattle.ct_base.specs.Plan.{write_wants as plan_wants};
 ghost use Rattle.ct_base.specs.View.{view};
 ghost use Rattle.ct_base.specs.Wants.{missing as missing_of};
-ghost use Rattle.ct_fs.specs.Mounted.{Volume};
+ghost use Rattle.ct_call.specs.Mounted.{Volume};
 ghost use Rattle.ct_grow.specs.Grown.{IsReady};
 ghost use Rattle.ct_write.specs.Written.{CanWrite};
 ghost use Rattle.write_stops.specs.Held.{IsHeld};

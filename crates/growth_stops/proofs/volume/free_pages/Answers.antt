@@ -1,5 +1,5 @@
 use Rattle.std.proofs.Common.{arith}
-use Rattle.ct_fs.proofs.Fresh.{first_there, first_taken}
+use Rattle.ct_format.proofs.Fresh.{first_there, first_taken}
 use Rattle.growth_stops.proofs.volume.free_pages.Goals as goal
 
 pub mark-requires : goal.mark-requires

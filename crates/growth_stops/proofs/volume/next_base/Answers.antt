@@ -2,7 +2,7 @@ use Rattle.std.proofs.Common.{ap, sym, subst, ◌∙◌}
 use Rattle.ct_base.specs.Inode.{IsPart, live_parts}
 use Rattle.ct_base.specs.Plan.{first_of}
 use Rattle.ct_base.specs.View.{inode_count, view}
-use Rattle.ct_fs.proofs.Rooms.{ready_here}
+use Rattle.ct_call.proofs.Rooms.{ready_here}
 use Rattle.ct_grow.proofs.Chosen.{first_is}
 use Rattle.ct_grow.proofs.Readied.{stands_now}
 use Rattle.ct_level.specs.Any.{partition}

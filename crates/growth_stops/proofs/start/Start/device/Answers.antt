@@ -1,6 +1,6 @@
 use Rattle.std.proofs.Common.{Some, List, ℕ, refl, sym, subst, ◌∙◌}
 use Rattle.ct_frames.specs.Agrees.{Agrees}
-use Rattle.ct_fs.specs.Mounted.{IsAtRest, IsMounted}
+use Rattle.ct_call.specs.Mounted.{IsAtRest, IsMounted}
 use Rattle.pm_trace.specs.Meaning.{history, words_of}
 use Rattle.pm_trace.specs.declared.trace.TracePm.{TracePm}
 use Rattle.growth_stops.proofs.Growable.{agrees_alike, mounted}

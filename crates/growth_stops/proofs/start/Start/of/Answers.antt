@@ -1,8 +1,8 @@
 use Rattle.std.proofs.Common.{List, ℕ, length, ap, sym, subst, ◌∙◌, arith}
 use Rattle.std.specs.Prelude.{slice_index}
 use Rattle.ct_frames.specs.Agrees.{Agrees}
-use Rattle.ct_fs.proofs.Resting.{mounted_rest}
-use Rattle.ct_fs.specs.Mounted.{IsAtRest}
+use Rattle.ct_call.proofs.Resting.{mounted_rest}
+use Rattle.ct_call.specs.Mounted.{IsAtRest}
 use Rattle.pm_trace.specs.Meaning.{words_of}
 use Rattle.pm_trace.specs.declared.trace.TracePm.{TracePm}
 use Rattle.growth_stops.proofs.start.Start.of.Goals as goal

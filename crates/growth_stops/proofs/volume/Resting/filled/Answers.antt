@@ -1,4 +1,4 @@
-use Rattle.ct_fs.proofs.Resting.{mounted_rest}
+use Rattle.ct_call.proofs.Resting.{mounted_rest}
 use Rattle.growth_stops.proofs.Growable.{filled_rest, mounted}
 use Rattle.growth_stops.proofs.volume.Resting.filled.Goals as goal
 

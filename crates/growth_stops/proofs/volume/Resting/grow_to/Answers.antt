@@ -1,6 +1,6 @@
 use Rattle.std.proofs.Common.{refl}
-use Rattle.ct_fs.proofs.Resting.{mounted_rest}
-use Rattle.ct_fs.proofs.Rooms.{moved_rest}
+use Rattle.ct_call.proofs.Resting.{mounted_rest}
+use Rattle.ct_call.proofs.Rooms.{moved_rest}
 use Rattle.growth_stops.proofs.Growable.{mounted}
 use Rattle.growth_stops.proofs.volume.Resting.grow_to.Goals as goal
 

@@ -1,0 +1,186 @@
+// A crash after the gate of a record, and another at each step of the recovery.
+ghost use Rattle.std.specs.Prelude.{◌≡◌, ◌≤◌, IfOk};
+ghost use Rattle.ct_pm.specs.Images.{IsSettled};
+ghost use Rattle.pm_fuse.specs.Fuse.{inner};
+ghost use Rattle.pm_trace.specs.Meaning.{history};
+
+use crate::script::{ENDLESS, LINES, found, run};
+use create_stops::reader::{inode_word, word_at};
+use ct_fs::{Stop, mount, mount_through};
+use ct_pm::{Pm, Step};
+use ct_write::Data;
+use growth_stops::{Growth, Start, Stopping, with_file};
+use pm_fuse::FusePm;
+use pm_trace::TracePm;
+use record_stops::{IMAGES, Image, choices};
+use std::alloc::Global;
+use std::process::Abort;
+use std::test::Fail;
+use write_stops::{FILE, Holder, Wrote};
+
+// The calls that pass when the gate is stored, flushed and fenced, of which the first is one from a moment on.
+fn gate_since(dev: &TracePm, from: u64) -> u64 {
+    for i in from..dev.clock() {
+        match dev.step_at(i) {
+            Step::Store { word: 512, .. } | Step::Store { word: 527, .. } => {
+                return i.saturating_add(3);
+            }
+            _ => {}
+        }
+    }
+    dev.clock()
+}
+
+// What is looked for on a device.
+trait Look {
+    fn is_there<D: Pm>(&self, dev: &D) -> bool;
+}
+
+// The image of a device whose lines are all at their floors.
+fn floors(alloc: Global, dev: &TracePm) -> Result<TracePm, Fail>
+    ensures { IfOk result (λ left. IsSettled (history left)) }
+{
+    Ok(dev.crash(
+        alloc,
+        &choices(alloc, Image::Floors, LINES)?,
+        Vec::new(alloc),
+    )?)
+}
+
+// The steps of a recovery that is not stopped.
+fn recovery_steps(alloc: Global, left: TracePm) -> u64
+    requires { IsSettled (history left) }
+{
+    match mount(alloc, left) {
+        Ok(fs) => fs.unmount().clock(),
+        Err(no_mount) => no_mount.dev.clock(),
+    }
+}
+
+// Mounts what a device leaves through two stops after so many calls each, with one of the images at each.
+fn is_mounted_through<L: Look>(
+    alloc: Global,
+    dev: &TracePm,
+    passes: u64,
+    image: Image,
+    look: &L,
+) -> Result<bool, Fail> {
+    let stops = [
+        Stop {
+            passes,
+            choice: choices(alloc, image, LINES)?,
+        },
+        Stop {
+            passes: passes / 2,
+            choice: choices(alloc, image, LINES)?,
+        },
+    ];
+    match mount_through(alloc, floors(alloc, dev)?, &stops) {
+        Ok(fs) => Ok(look.is_there(&fs.unmount())),
+        Err(_) => Ok(false),
+    }
+}
+
+// Stops the recovery of what a device leaves after each of its calls. It has more steps than a number.
+fn stop_each<L: Look>(
+    rt: &impl Abort,
+    alloc: Global,
+    dev: &TracePm,
+    least: u64,
+    look: &L,
+) -> Result<(), Fail> {
+    // It has no steps of its own, so that it is soon copied.
+    let left = floors(alloc, dev)?;
+    let steps = recovery_steps(alloc, floors(alloc, &left)?);
+    assert!(rt; least < steps, "{steps} steps");
+    for passes in 0..steps {
+        for image in IMAGES {
+            assert!(rt;
+                is_mounted_through(alloc, &left, passes, image, look)?,
+                "{image:?} after {passes} calls"
+            );
+        }
+    }
+    Ok(())
+}
+
+// The tree after so many calls of the script.
+struct Tree(u64);
+
+impl Look for Tree {
+    fn is_there<D: Pm>(&self, dev: &D) -> bool {
+        found(dev) == Some(self.0)
+    }
+}
+
+// The last call of the script: its record comes after the one by which the directory grows.
+#[test]
+fn a_recovery_of_a_new_entry_stops(rt: HostRuntime) -> Result<(), Fail> {
+    let alloc = rt.alloc();
+    let before = run(alloc, 1, ENDLESS)?.dev.clock();
+    let gate = gate_since(&run(alloc, 2, ENDLESS)?.dev, before);
+    let ran = run(alloc, 2, gate)?;
+    assert_eq!(rt; ran.done, 1);
+    stop_each(&rt, alloc, &ran.dev, 41, &Tree(2))
+}
+
+// A device that starts with nothing pending.
+fn blank(alloc: Global) -> Result<Stopping, Fail>
+    ensures { IfOk result (λ device. IsSettled (history (inner device))) }
+{
+    let words = vec![in alloc; 0; 512 * 256]?;
+    Ok(FusePm::new(
+        TracePm::new(alloc, words, 60_000, Vec::new(alloc))?,
+        u64::MAX,
+    ))
+}
+
+// Where the file has a partition, and no byte.
+fn start_of(alloc: Global) -> Result<Option<Start>, Fail> {
+    let Some(resting) = with_file(alloc, blank(alloc)?) else {
+        return Ok(None);
+    };
+    match resting.grow_file(0) {
+        Growth::Done(grown) => Ok(Start::of(grown)),
+        Growth::Stopped(_) | Growth::Refused => Ok(None),
+    }
+}
+
+// The device after a write of two bytes, as far as so many calls go.
+fn written(alloc: Global, start: &Start, passes: u64) -> Option<TracePm> {
+    let holder = Holder::of(start.device(alloc, 10_000, passes)?);
+    match holder.write(0, Data::Bytes(&[0x68, 0x69])) {
+        Wrote::Done(holder) => Some(holder.into_dev().into_inner()),
+        Wrote::Stopped(dev) => Some(dev.into_inner()),
+        Wrote::Refused => None,
+    }
+}
+
+// The file has the two bytes.
+struct Bytes;
+
+impl Look for Bytes {
+    fn is_there<D: Pm>(&self, dev: &D) -> bool {
+        inode_word(dev, FILE, 1) == 2 && word_at(dev, inode_word(dev, FILE, 2)) == 0x6968
+    }
+}
+
+#[test]
+fn a_recovery_of_a_write_stops(rt: HostRuntime) -> Result<(), Fail> {
+    let alloc = rt.alloc();
+    let Some(start) = start_of(alloc)? else {
+        assert!(rt; false, "a file");
+        return Ok(());
+    };
+    let Some(whole) = written(alloc, &start, u64::MAX) else {
+        assert!(rt; false, "no room");
+        return Ok(());
+    };
+    let Some(dev) = written(alloc, &start, gate_since(&whole, 0)) else {
+        assert!(rt; false, "no room");
+        return Ok(());
+    };
+    assert!(rt; dev.clock() < whole.clock());
+    assert!(rt; is_mounted_through(alloc, &whole, u64::MAX, Image::Reads, &Bytes)?);
+    stop_each(&rt, alloc, &dev, 10, &Bytes)
+}

@@ -1,0 +1,224 @@
+// Calls that change bytes over a device that stops, and what a mount finds, beside a plain tree.
+ghost use Rattle.std.specs.Prelude.{◌≡◌, IfOk};
+ghost use Rattle.ct_pm.specs.Images.{IsSettled};
+ghost use Rattle.pm_trace.specs.Meaning.{history};
+
+use crate::script::{ENDLESS, LINES, blank, is_near_fence, scattered};
+use ct_fs::{Fs, FsError, Stat, format, mount};
+use ct_plain::PlainTree;
+use ct_pm::Pm;
+use ct_tree::{Call, Reply};
+use pm_fuse::FusePm;
+use pm_trace::TracePm;
+use record_stops::{IMAGES, choices};
+use std::alloc::Global;
+use std::process::Abort;
+use std::test::Fail;
+
+// How many calls there are, and how many of them come before the first stop.
+const CALLS: u64 = 13;
+
+const BEFORE: u64 = 1;
+
+// A file of a page and some bytes, one of two pages, an exchange between them, cuts, a rename that replaces, one that does not,
+// and a removal.
+fn call_at(number: u64) -> Call<'static> {
+    match number {
+        0 => Call::Create { path: b"/a" },
+        1 => Call::Write {
+            path: b"/a",
+            off: 0,
+            bytes: b"A",
+        },
+        2 => Call::Write {
+            path: b"/a",
+            off: 4095,
+            bytes: b"BB",
+        },
+        3 => Call::Create { path: b"/b" },
+        4 => Call::Fill {
+            path: b"/b",
+            off: 0,
+            len: 8192,
+            byte: 67,
+        },
+        5 => Call::Exchange {
+            path: b"/a",
+            off: 0,
+            other: b"/b",
+            other_off: 4096,
+            len: 4096,
+        },
+        6 => Call::Append {
+            path: b"/a",
+            bytes: b"D",
+        },
+        7 => Call::Truncate {
+            path: b"/a",
+            len: 5,
+        },
+        8 => Call::Truncate {
+            path: b"/b",
+            len: 0,
+        },
+        9 => Call::Rename {
+            path: b"/a",
+            to: b"/b",
+        },
+        10 => Call::Append {
+            path: b"/b",
+            bytes: b"E",
+        },
+        11 => Call::Rename {
+            path: b"/b",
+            to: b"/a",
+        },
+        _ => Call::Unlink { path: b"/a" },
+    }
+}
+
+// Makes a call of the list.
+fn play<D: Pm>(fs: &mut Fs<D>, call: &Call<'_>) -> Result<(), FsError> {
+    match *call {
+        Call::Create { path } => fs.create(path),
+        Call::Write { path, off, bytes } => fs.write(path, off, bytes),
+        Call::Fill {
+            path,
+            off,
+            len,
+            byte,
+        } => fs.fill(path, off, len, byte),
+        Call::Append { path, bytes } => fs.append(path, bytes),
+        Call::Truncate { path, len } => fs.truncate(path, len),
+        Call::Exchange {
+            path,
+            off,
+            other,
+            other_off,
+            len,
+        } => fs.exchange(path, off, other, other_off, len),
+        Call::Unlink { path } => fs.unlink(path),
+        Call::Rename { path, to } => fs.rename(path, to),
+        _ => Ok(()),
+    }
+}
+
+// A device after a format and so many of the calls, as far as so many of its own calls go, and how many were done.
+fn ran(alloc: Global, calls: u64, passes: u64) -> Result<(TracePm, u64), Fail> {
+    let mut fs = match format(alloc, FusePm::new(blank(alloc)?, passes), 16) {
+        Ok(fs) => fs,
+        Err(no_mount) => return Ok((no_mount.dev.into_inner(), 0)),
+    };
+    let mut done: u64 = 0;
+    for number in 0..calls {
+        if play(&mut fs, &call_at(number)).is_ok() {
+            done = done.saturating_add(1);
+        }
+    }
+    Ok((fs.unmount().into_inner(), done))
+}
+
+// The plain tree after so many of the calls.
+fn tree_after(alloc: Global, calls: u64) -> Result<PlainTree, Fail> {
+    let mut tree = PlainTree::new(alloc)?;
+    for number in 0..calls {
+        let _reply = tree.call(&call_at(number))?;
+    }
+    Ok(tree)
+}
+
+// Whether both tell the same of a path: that nothing is there, or the same bytes.
+fn is_alike<D: Pm>(
+    alloc: Global,
+    fs: &Fs<D>,
+    tree: &mut PlainTree,
+    path: &[u8],
+) -> Result<bool, Fail> {
+    let mut bytes = vec![in alloc; 0u8; 10_000]?;
+    let count = match fs.read(path, 0, 10_000, bytes.as_mut_slice()) {
+        Ok(count) => count,
+        Err(_) => {
+            let reply = tree.call(&Call::Stat { path })?;
+            return Ok(matches!(reply, Reply::Refused(_)));
+        }
+    };
+    let size = fs.stat(path);
+    match tree.call(&Call::Read {
+        path,
+        off: 0,
+        len: 10_000,
+    })? {
+        Reply::Data(data) => Ok(
+            data.as_slice() == &bytes[..count as usize] && size == Ok(Stat::File { size: count }),
+        ),
+        _ => Ok(false),
+    }
+}
+
+// Whether a file system holds the tree after so many of the calls.
+fn is_after<D: Pm>(alloc: Global, fs: &Fs<D>, calls: u64) -> Result<bool, Fail> {
+    let mut tree = tree_after(alloc, calls)?;
+    Ok(is_alike(alloc, fs, &mut tree, b"/a")? && is_alike(alloc, fs, &mut tree, b"/b")?)
+}
+
+// Whether what is left mounts, and holds the tree after so many of the calls.
+fn holds_after(alloc: Global, left: TracePm, calls: u64) -> Result<bool, Fail>
+    requires { IsSettled (history left) }
+{
+    match mount(alloc, left) {
+        Ok(fs) => {
+            let after = is_after(alloc, &fs, calls);
+            let _dev = fs.unmount();
+            after
+        }
+        Err(_) => Ok(false),
+    }
+}
+
+/// Whether an image of what is left holds the tree before the next call or after it.
+pub fn is_before_or_after(
+    alloc: Global,
+    dev: &TracePm,
+    choice: &[u64],
+    done: u64,
+) -> Result<bool, Fail> {
+    let left = dev.crash(alloc, choice, Vec::new(alloc))?;
+    if holds_after(alloc, left, done)? {
+        return Ok(true);
+    }
+    let left = dev.crash(alloc, choice, Vec::new(alloc))?;
+    holds_after(alloc, left, done.saturating_add(1))
+}
+
+// Stops the calls after so many calls of the device, and mounts three images of what is left, and one in which each line
+// stands at some step.
+fn stop_after(rt: &impl Abort, alloc: Global, passes: u64) -> Result<(), Fail> {
+    let (dev, done) = ran(alloc, CALLS, passes)?;
+    for image in IMAGES {
+        let choice = choices(alloc, image, LINES)?;
+        assert!(rt;
+            is_before_or_after(alloc, &dev, &choice, done)?,
+            "{image:?} after {passes} steps"
+        );
+    }
+    let choice = scattered(alloc, dev.clock(), passes)?;
+    assert!(rt;
+        is_before_or_after(alloc, &dev, &choice, done)?,
+        "scattered after {passes} steps"
+    );
+    Ok(())
+}
+
+#[test]
+fn each_stop_of_a_change_mounts_to_the_tree_before_or_after(rt: HostRuntime) -> Result<(), Fail> {
+    let alloc = rt.alloc();
+    let (begin, _) = ran(alloc, BEFORE, ENDLESS)?;
+    let (end, done) = ran(alloc, CALLS, ENDLESS)?;
+    assert_eq!(rt; done, CALLS);
+    for passes in begin.clock()..end.clock().saturating_add(1) {
+        if passes % 97 == 0 || is_near_fence(&end, passes) {
+            stop_after(&rt, alloc, passes)?;
+        }
+    }
+    Ok(())
+}

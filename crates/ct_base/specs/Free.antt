@@ -4,6 +4,7 @@ use Rattle.ct_base.specs.Walk.{page_at, page_count, walk}
 use Rattle.ct_base.specs.View.{view, inode_count}
 use Rattle.ct_base.specs.Inode.{IsIn, inode}
 use Rattle.ct_base.specs.Rules.{IsSeen, Owns, part_of}
+use Rattle.ct_base.specs.declared.layout.TheConstants.{FIRST_PAGE}
 
 -- the page is reached by index steps from a root slot other than 2 to 9
 pub record IsInUse (img : List ℕ) (page : ℕ) : Type 0 where
@@ -21,7 +22,7 @@ IsRising (p ∷ ps) = ((q : ℕ) → Contains ps q → p < q) × IsRising ps
 
 -- the page may be taken: it is one of pages 34 to the page count less 1, and not in use
 pub record IsFreePage (img : List ℕ) (page : ℕ) : Type 0 where
-  pub from : 34 ≤ page
+  pub from : FIRST_PAGE ≤ page
   pub to : page < page_count img
   pub free : IsInUse img page → ⊥
 

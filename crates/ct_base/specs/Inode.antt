@@ -1,6 +1,7 @@
 -- Inodes and their partitions, read from bytes by address.
 use Rattle.std.specs.Prelude.{◌≡◌, ◌≢◌, ℕ, zero, suc, ◌+◌, ◌-◌, ◌*◌, ◌/◌, ◌%◌, ◌^◌, ◌<◌, ◌≤◌, ◌⊎◌, ◌==◌, nat_le, nat_lt, ◌&&◌, Bool, not, if◌then◌else◌, List, [], ◌∷◌}
 pub use Rattle.ct_base.specs.declared.inode.Inode.{Inode}
+use Rattle.ct_base.specs.declared.layout.TheConstants.{ADDRESS_END, INODE_BYTES, PAGE_BYTES, PARTITION_SLOT, SLOT_SPAN, TABLE_ENTRIES, TOP_LEVEL}
 
 -- the number whose n bytes stand from an address on, the lowest first
 unfoldable pub little : (ℕ → ℕ) → ℕ → ℕ → ℕ
@@ -9,7 +10,7 @@ little b v (suc n) = b v + 256 * little b (v + 1) n
 
 -- word k of inode i
 abbrev pub inode_word : (ℕ → ℕ) → ℕ → ℕ → ℕ
-inode_word b i k = little b (64 * i + 8 * k) 8
+inode_word b i k = little b (INODE_BYTES * i + 8 * k) 8
 
 abbrev pub inode : (ℕ → ℕ) → ℕ → Inode
 inode b i = record { kind = inode_word b i 0; size = inode_word b i 1; base = inode_word b i 2; level = inode_word b i 3 }
@@ -29,7 +30,7 @@ pub record Partition : Type 0 where
   pub level : ℕ
 
 abbrev pub part_bytes : ℕ → ℕ
-part_bytes level = 4096 * 8 ^ level
+part_bytes level = PAGE_BYTES * 8 ^ level
 
 abbrev pub part_end : Partition → ℕ
 part_end p = p.base + part_bytes p.level
@@ -38,7 +39,7 @@ abbrev pub part : Inode → Partition
 part f = record { base = f.base; level = f.level }
 
 abbrev pub has_part : Inode → Bool
-has_part f = not (f.kind == 0) && nat_le f.level 9
+has_part f = not (f.kind == 0) && nat_le f.level TOP_LEVEL
 
 -- the partitions of the live inodes from 1 to n
 unfoldable pub live_parts : (ℕ → ℕ) → ℕ → List Partition
@@ -56,10 +57,10 @@ AreApart p q = (part_end p ≤ q.base) ⊎ (part_end q ≤ p.base)
 
 -- aligned, and in root slots 10 to 511
 pub record IsPart (p : Partition) : Type 0 where
-  pub level : p.level ≤ 9
+  pub level : p.level ≤ TOP_LEVEL
   pub aligned : p.base % part_bytes p.level ≡ 0
-  pub low : 10 * 2 ^ 39 ≤ p.base
-  pub high : p.base < 2 ^ 48
+  pub low : PARTITION_SLOT * SLOT_SPAN ≤ p.base
+  pub high : p.base < ADDRESS_END
 
 abbrev pub meets : Partition → Partition → Bool
 meets p q = nat_lt p.base (part_end q) && nat_lt q.base (part_end p)
@@ -83,4 +84,4 @@ free_from ps level j (suc k) = if is_free ps (nth level j) then nth level j ∷ 
 
 -- the free partitions of a level in root slots 10 to 511
 abbrev pub free_parts : List Partition → ℕ → List Partition
-free_parts ps level = free_from ps level (10 * 8 ^ (9 - level)) (502 * 8 ^ (9 - level))
+free_parts ps level = free_from ps level (PARTITION_SLOT * 8 ^ (TOP_LEVEL - level)) ((TABLE_ENTRIES - PARTITION_SLOT) * 8 ^ (TOP_LEVEL - level))

@@ -8,6 +8,7 @@ use Rattle.std.specs.declared.cmp.Ordering.{Ordering}
 use Rattle.std.specs.Ordering.{nat_cmp}
 use Rattle.std.specs.Cmp.Lexicographic.{slice_cmp}
 use Rattle.ct_base.specs.Split.{parts_at}
+use Rattle.ct_base.specs.declared.layout.TheConstants.{PATH_BYTES}
 
 -- the parts of a text between its slashes
 abbrev pub parts : List ℕ → List (List ℕ)
@@ -34,7 +35,7 @@ names_from (x ∷ xs) = if x == 47 then names_after xs else None
 
 -- the names of a path, which has at most 4096 bytes; none where the text is no path
 abbrev pub names_of : List ℕ → Option (List (List ℕ))
-names_of path = if nat_le (length path) 4096 then names_from path else None
+names_of path = if nat_le (length path) PATH_BYTES then names_from path else None
 
 -- what a list of borrowed texts holds
 abbrev pub texts : List (Bor (List ℕ)) → List (List ℕ)

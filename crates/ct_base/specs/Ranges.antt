@@ -1,8 +1,9 @@
 -- Range (n, j) is the range with number j among the aligned ranges of 4096 * 8 ^ n bytes. A partition is such a range
 -- of level 0 to 9; a range of level 9 is a root slot. A live set is a test on levels and numbers.
-use Rattle.std.specs.Prelude.{◌≡◌, ◌≢◌, ℕ, zero, suc, ◌+◌, ◌-◌, ◌*◌, ◌/◌, ◌%◌, ◌^◌, ◌<◌, ◌≤◌, ◌==◌, nat_le, nat_lt, ◌&&◌, ◌||◌, Bool, true, false, if◌then◌else◌, List, [], ◌∷◌, slice_index, max}
+use Rattle.std.specs.Prelude.{◌≡◌, ◌≢◌, ℕ, zero, suc, ◌+◌, ◌-◌, ◌*◌, ◌/◌, ◌%◌, ◌^◌, ◌<◌, ◌≤◌, ◌==◌, nat_lt, ◌&&◌, ◌||◌, Bool, true, false, if◌then◌else◌, List, [], ◌∷◌, slice_index, max}
 use Rattle.std.specs.List.{list_all}
 use Rattle.std.specs.Int.{w64, from_le_bytes, to_le_bytes}
+use Rattle.ct_base.specs.declared.layout.TheConstants.{PARTITION_SLOT, SLOT_SPAN, TABLE_ENTRIES, TOP_LEVEL}
 
 -- the ranges have an address in common
 abbrev pub Meet : ℕ → ℕ → ℕ → ℕ → Type 0
@@ -34,7 +35,7 @@ byte live (suc n) j = if live (suc n) j then 16 else summary n (eight (λ i. byt
 
 -- the byte as it stands in a header: slots 0 to 9 are the product's own
 abbrev pub shown : (ℕ → ℕ → Bool) → ℕ → ℕ → ℕ
-shown live n j = if n == 9 && nat_lt j 10 then 48 else byte live n j
+shown live n j = if n == TOP_LEVEL && nat_lt j PARTITION_SLOT then 48 else byte live n j
 
 -- the bytes of the header word of range (n + 1, j); the words of the level-9 bytes are those of level 10
 abbrev pub bytes_below : (ℕ → ℕ → Bool) → ℕ → ℕ → List ℕ
@@ -45,7 +46,7 @@ header live n j = from_le_bytes w64 (bytes_below live n j)
 
 -- the address of the header word of range (n, j), n from 1 to 10
 unfoldable pub header_at : ℕ → ℕ → ℕ
-header_at n j = 549755813888 + (if nat_lt n 2 then 8 * j else 68719476736 + (n - 2) * 8589934592 + 8 * j)
+header_at n j = SLOT_SPAN + (if nat_lt n 2 then 8 * j else 68719476736 + (n - 2) * 8589934592 + 8 * j)
 
 -- the byte of range (n, c) as the headers show it
 abbrev pub byte_shown : (ℕ → ℕ) → ℕ → ℕ → ℕ
@@ -57,14 +58,14 @@ fits l b = (b == 0) || nat_lt (32 + l) b
 
 -- The words of slot 1 are those of a live set.
 pub record Headers (live : ℕ → ℕ → Bool) (word_at : ℕ → ℕ) : Type 0 where
-  pub words : (n j : ℕ) → n ≤ 9 → j < 64 * 8 ^ (9 - n) → word_at (header_at (n + 1) j) ≡ header live n j
-  pub rest : (a : ℕ) → a / 549755813888 ≡ 1 → a % 8 ≡ 0 → ((n j : ℕ) → n ≤ 9 → j < 64 * 8 ^ (9 - n) → a ≢ header_at (n + 1) j) → word_at a ≡ 0
+  pub words : (n j : ℕ) → n ≤ TOP_LEVEL → j < 64 * 8 ^ (9 - n) → word_at (header_at (n + 1) j) ≡ header live n j
+  pub rest : (a : ℕ) → a / SLOT_SPAN ≡ 1 → a % 8 ≡ 0 → ((n j : ℕ) → n ≤ TOP_LEVEL → j < 64 * 8 ^ (9 - n) → a ≢ header_at (n + 1) j) → word_at a ≡ 0
 
 -- range (n, j) is a partition: its level is 0 to 9 and it lies in slots 10 to 511
 pub record IsPartition (n j : ℕ) : Type 0 where
-  pub level : n ≤ 9
-  pub low : 10 * 8 ^ (9 - n) ≤ j
-  pub high : j < 512 * 8 ^ (9 - n)
+  pub level : n ≤ TOP_LEVEL
+  pub low : PARTITION_SLOT * 8 ^ (TOP_LEVEL - n) ≤ j
+  pub high : j < TABLE_ENTRIES * 8 ^ (TOP_LEVEL - n)
 
 -- range (n, j) meets no partition of the set
 abbrev pub IsFree : (ℕ → ℕ → Bool) → ℕ → ℕ → Type 0
@@ -80,7 +81,7 @@ pub record IsFirstFree (live : ℕ → ℕ → Bool) (n j : ℕ) : Type 0 where
 pub record Changes (old new : ℕ → ℕ → Bool) (m p b : ℕ) : Type 0 where
   pub off : (n j : ℕ) → (n ≡ m → j ≡ p → ⊥) → new n j ≡ old n j
   pub partition : IsPartition m p
-  pub above : (d : ℕ) → m + suc d ≤ 9 → new (m + suc d) (p / 8 ^ suc d) ≡ false
+  pub above : (d : ℕ) → m + suc d ≤ TOP_LEVEL → new (m + suc d) (p / 8 ^ suc d) ≡ false
   pub is : b ≡ byte new m p
 
 -- The partitions of the set are partitions, and none lies in another.
@@ -101,8 +102,8 @@ pub record Clear (live : ℕ → ℕ → Bool) (n l x : ℕ) : Type 0 where
 pub record Going (live : ℕ → ℕ → Bool) (l e j : ℕ) : Type 0 where
   pub partition : IsPartition (l + e) j
   pub room : l < rank (l + e) (byte live (l + e) j)
-  pub above : (d : ℕ) → l + e + suc d ≤ 9 → live (l + e + suc d) (j / 8 ^ suc d) ≡ false
-  pub first : (x : ℕ) → IsPartition l x → Clear live 9 l x → j ≤ x / 8 ^ e
+  pub above : (d : ℕ) → l + e + suc d ≤ TOP_LEVEL → live (l + e + suc d) (j / 8 ^ suc d) ≡ false
+  pub first : (x : ℕ) → IsPartition l x → Clear live TOP_LEVEL l x → j ≤ x / 8 ^ e
 
 -- the same by the headers alone, at level n
 abbrev pub IsDown : (ℕ → ℕ) → ℕ → ℕ → ℕ → Type 0

@@ -7,15 +7,16 @@ use Rattle.ct_base.specs.Headers.{HeadersStand}
 use Rattle.ct_base.specs.Objects.{Object, objects}
 use Rattle.ct_base.specs.Slots.{IsSlot, Names, Steps, slot_inode, slot_length, slot_name}
 use Rattle.ct_base.specs.Path.{is_name}
+use Rattle.ct_base.specs.declared.layout.TheConstants.{DIRECTORY_KIND, ENTRY_BYTES, INODE_BYTES, NO_PARTITION, PAGE_BYTES, PARTITION_SLOT, SLOT_PAGES, SLOT_SPAN, TABLE_ENTRIES, TOP_LEVEL}
 
 -- cell (d, x) is the root, or lies in a root slot other than 2 to 9
 abbrev pub IsSeen : ℕ → ℕ → Type 0
-IsSeen d x = is_seen (x * (4096 * 512 ^ (4 - d))) ≡ true
+IsSeen d x = is_seen (x * (PAGE_BYTES * TABLE_ENTRIES ^ (4 - d))) ≡ true
 
 -- rule 8: an entry that is met is 0 or names a page
 abbrev pub EntriesName : List ℕ → Type 0
 EntriesName img =
-    (d x i : ℕ) → d ≤ 3 → i < 512 → IsSeen (suc d) (x * 512 + i) → page_at img d x ≢ 0 → next img (page_at img d x) i ≡ 0 → word img (page_at img d x * 512 + i) ≡ 0
+    (d x i : ℕ) → d ≤ 3 → i < TABLE_ENTRIES → IsSeen (suc d) (x * TABLE_ENTRIES + i) → page_at img d x ≢ 0 → next img (page_at img d x) i ≡ 0 → word img (page_at img d x * TABLE_ENTRIES + i) ≡ 0
 
 -- rule 9: no page is reached twice
 abbrev pub ReachesOnce : List ℕ → Type 0
@@ -34,7 +35,7 @@ AreInodes b count = (i : ℕ) → IsNumber count i → IsInode b i
 
 -- rule 11: a live inode has no partition and no bytes, or one that is large enough
 pub record HasNone (f : Inode) : Type 0 where
-  pub level : f.level ≡ 15
+  pub level : f.level ≡ NO_PARTITION
   pub base : f.base ≡ 0
   pub size : f.size ≡ 0
 
@@ -44,7 +45,7 @@ pub record HasRoom (f : Inode) : Type 0 where
 
 pub record IsPlaced (f : Inode) : Type 0 where
   pub place : HasNone f ⊎ HasRoom f
-  pub slots : f.kind ≡ 2 → f.size % 256 ≡ 0
+  pub slots : f.kind ≡ DIRECTORY_KIND → f.size % ENTRY_BYTES ≡ 0
 
 abbrev pub ArePlaced : (ℕ → ℕ) → ℕ → Type 0
 ArePlaced b count = (i : ℕ) → IsLive b count i → IsPlaced (inode b i)
@@ -52,7 +53,7 @@ ArePlaced b count = (i : ℕ) → IsLive b count i → IsPlaced (inode b i)
 -- an inode that is live and has a partition
 pub record Owns (b : ℕ → ℕ) (count i : ℕ) : Type 0 where
   pub live : IsLive b count i
-  pub level : (inode b i).level ≤ 9
+  pub level : (inode b i).level ≤ TOP_LEVEL
 
 abbrev pub part_of : (ℕ → ℕ) → ℕ → Partition
 part_of b i = part (inode b i)
@@ -68,7 +69,7 @@ AreTailsZero b count = (i : ℕ) → Owns b count i → (k : ℕ) → (inode b i
 -- rule 14: a page in root slots 10 to 511 is mapped in a partition alone
 abbrev pub IsMappedInParts : List ℕ → (ℕ → ℕ) → ℕ → Type 0
 IsMappedInParts img b count =
-    (p : ℕ) → 10 * 2 ^ 27 ≤ p → ((i : ℕ) → Owns b count i → IsIn (part_of b i) (p * 4096) → ⊥) → page_at img 4 p ≡ 0
+    (p : ℕ) → PARTITION_SLOT * SLOT_PAGES ≤ p → ((i : ℕ) → Owns b count i → IsIn (part_of b i) (p * PAGE_BYTES) → ⊥) → page_at img 4 p ≡ 0
 
 -- rule 15: the bytes of root slot 1 are the headers of the partitions
 abbrev pub AreHeaders : (ℕ → ℕ) → ℕ → Type 0
@@ -76,14 +77,14 @@ AreHeaders b count = HeadersStand b (live_parts b count)
 
 -- rule 16: root slot 0 has nothing beside the inodes
 abbrev pub IsRestZero : (ℕ → ℕ) → ℕ → Type 0
-IsRestZero b count = (v : ℕ) → v < 2 ^ 39 → (v < 64) ⊎ (64 * (count + 1) ≤ v) → b v ≡ 0
+IsRestZero b count = (v : ℕ) → v < SLOT_SPAN → (v < INODE_BYTES) ⊎ (INODE_BYTES * (count + 1) ≤ v) → b v ≡ 0
 
 -- rule 17: a slot names a live inode, by a name
 pub record IsEntry (fs : ℕ → Object) (f : Object) (o : ℕ) : Type 0 where
   pub live : (fs (slot_inode f o)).kind ≢ 0
   pub length : slot_length f o ≤ 248
   pub name : is_name (slot_name f o) ≡ true
-  pub padding : (k : ℕ) → 8 + slot_length f o ≤ k → k < 256 → f.at (o + k) ≡ 0
+  pub padding : (k : ℕ) → 8 + slot_length f o ≤ k → k < ENTRY_BYTES → f.at (o + k) ≡ 0
 
 abbrev pub AreEntries : (ℕ → Object) → Type 0
 AreEntries fs = (i o : ℕ) → IsSlot (fs i) o → IsEntry fs (fs i) o

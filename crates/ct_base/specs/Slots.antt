@@ -2,6 +2,7 @@
 use Rattle.std.specs.Prelude.{◌≡◌, ◌≢◌, ℕ, zero, suc, ◌+◌, ◌/◌, ◌%◌, ◌<◌, ◌==◌, if◌then◌else◌, List, [], ◌∷◌}
 use Rattle.ct_base.specs.Inode.{little}
 use Rattle.ct_base.specs.Objects.{Object}
+use Rattle.ct_base.specs.declared.layout.TheConstants.{ENTRY_BYTES}
 
 -- the n bytes from a place on
 unfoldable pub bytes_from : (ℕ → ℕ) → ℕ → ℕ → List ℕ
@@ -22,7 +23,7 @@ slot_name f o = bytes_from f.at (o + 8) (slot_length f o)
 pub record IsSlot (f : Object) (o : ℕ) : Type 0 where
   pub dir : f.kind ≡ 2
   pub below : o < f.size
-  pub aligned : o % 256 ≡ 0
+  pub aligned : o % ENTRY_BYTES ≡ 0
   pub used : little f.at o 256 ≢ 0
 
 pub record Entry : Type 0 where
@@ -36,19 +37,19 @@ entry_at f o = record { offset = o; inode = slot_inode f o; name = slot_name f o
 -- the entries of n slots from an offset on
 unfoldable pub entries_from : Object → ℕ → ℕ → List Entry
 entries_from f o zero = []
-entries_from f o (suc n) = if little f.at o 256 == 0 then entries_from f (o + 256) n else entry_at f o ∷ entries_from f (o + 256) n
+entries_from f o (suc n) = if little f.at o 256 == 0 then entries_from f (o + ENTRY_BYTES) n else entry_at f o ∷ entries_from f (o + ENTRY_BYTES) n
 
 abbrev pub entries : Object → List Entry
-entries f = entries_from f 0 (f.size / 256)
+entries f = entries_from f 0 (f.size / ENTRY_BYTES)
 
 -- the offset of the first empty slot of n from an offset on, and where there is none the end
 unfoldable pub free_slot_from : Object → ℕ → ℕ → ℕ
 free_slot_from f o zero = o
-free_slot_from f o (suc n) = if little f.at o 256 == 0 then o else free_slot_from f (o + 256) n
+free_slot_from f o (suc n) = if little f.at o 256 == 0 then o else free_slot_from f (o + ENTRY_BYTES) n
 
 -- where a new entry goes
 abbrev pub free_slot : Object → ℕ
-free_slot f = free_slot_from f 0 (f.size / 256)
+free_slot f = free_slot_from f 0 (f.size / ENTRY_BYTES)
 
 -- a slot of directory i names inode c
 pub record Names (fs : ℕ → Object) (i o c : ℕ) : Type 0 where

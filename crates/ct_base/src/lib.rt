@@ -2,6 +2,8 @@
 #![tactic(auto)]
 
 mod inode;
+mod layout;
+mod limits;
 mod mem;
 mod page;
 mod split;
@@ -16,6 +18,14 @@ ghost use Rattle.ct_base.specs.Bytes.{PutAppends};
 
 use arrayvec::ArrayVec;
 pub use inode::Inode;
+pub use layout::{
+    ADDRESS_END, DIRECTORY_KIND, ENTRY_BYTES, ENTRY_WORDS, FILE_KIND, FIRST_PAGE, INODE_BYTES,
+    LEAST_INODES, LEAST_PAGES, LONG_GATE, LONG_PAIRS, MAGIC, MOST_INODES, MOST_LONG_PAIRS,
+    MOST_PAGES, MOST_SHORT_PAIRS, NO_PARTITION, PAGE_BYTES, PAGE_WORDS, PARTITION_SLOT,
+    PARTITION_SLOTS, PATH_BYTES, ROOT_PAGE, ROOT_WORD, SHORT_GATE, SHORT_PAIRS, SLOT_PAGES,
+    SLOT_SPAN, STAGING_SLOT, STAGING_SLOTS, TABLE_ENTRIES, TOP_LEVEL, VERSION,
+};
+pub use limits::{MOST_CALL_PAIRS, MOST_EXCHANGE_PAIRS, MOST_GROWTH_PAIRS};
 pub use mem::{MemSink, MemSource};
 pub use page::{Page, Vaddr};
 pub use split::first_part;

@@ -1,6 +1,7 @@
 // The numbers of pages, and virtual addresses.
-ghost use Rattle.std.specs.Prelude.{◌≡◌, ◌/◌, ◌^◌, ◌<◌, ◌≤◌, ◌↔◌, IsNone, IfSome};
+ghost use Rattle.std.specs.Prelude.{◌≡◌, ◌/◌, ◌<◌, ◌≤◌, ◌↔◌, IsNone, IfSome};
 
+use crate::layout::{ADDRESS_END, SLOT_SPAN, TABLE_ENTRIES};
 use std::marker::Model;
 
 /// The number of a page of 4,096 bytes on a device, from 0.
@@ -33,23 +34,21 @@ impl Page {
     }
 }
 
-/// How many virtual addresses there are: 48 bits of them.
-const ADDRESSES: u64 = 1 << 48;
-
-/// A virtual address: a number below 2^48.
+/// A virtual address: a number below `ADDRESS_END`, 2^48.
 #[derive(Clone, Copy, Debug, PartialEq, Eq)]
 pub struct Vaddr {
     address: u64,
 }
 
 impl Model for Vaddr {
-    ghost use Rattle.std.specs.Prelude.{ℕ, ◌^◌, ◌<◌};
+    ghost use Rattle.std.specs.Prelude.{ℕ, ◌<◌};
+    ghost use Rattle.ct_base.specs.declared.layout.TheConstants.{ADDRESS_END};
 
     ghost Value = { ℕ };
 
     ghost view = { λ v. v.address };
 
-    ghost invariant = { λ v. v.address < 2 ^ 48 };
+    ghost invariant = { λ v. v.address < ADDRESS_END };
 
     ghost inverse = { λ n. record { address = n } };
 }
@@ -57,10 +56,10 @@ impl Model for Vaddr {
 impl Vaddr {
     /// `None` for a number that is no address.
     pub fn new(v: u64) -> Option<Vaddr>
-        ensures none { IsNone result ↔ (2 ^ 48 ≤ v) }
+        ensures none { IsNone result ↔ (ADDRESS_END ≤ v) }
         ensures value { IfSome result (λ a. a ≡ v) }
     {
-        if v < ADDRESSES {
+        if v < ADDRESS_END {
             Some(Vaddr { address: v })
         } else {
             None
@@ -69,16 +68,16 @@ impl Vaddr {
 
     pub fn get(self) -> u64
         ensures value { result ≡ self }
-        ensures bound { result < 2 ^ 48 }
+        ensures bound { result < ADDRESS_END }
     {
         self.address
     }
 
-    /// The number of the root slot that covers the address: each slot covers 2^39 bytes.
+    /// The number of the root slot that covers the address: each slot covers `SLOT_SPAN` bytes.
     pub fn slot(self) -> u64
-        ensures value { result ≡ self / 2 ^ 39 }
-        ensures bound { result < 512 }
+        ensures value { result ≡ self / SLOT_SPAN }
+        ensures bound { result < TABLE_ENTRIES }
     {
-        self.address / (1 << 39)
+        self.address / SLOT_SPAN
     }
 }

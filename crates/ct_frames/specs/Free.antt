@@ -1,6 +1,7 @@
 -- Which pages are free.
 use Rattle.std.specs.Prelude.{◌≡◌, ℕ, zero, suc, false, length, ◌*◌, ◌/◌, ◌%◌, ◌<◌, ◌≤◌, ◌==◌, nat_lt, Bool, cond, if◌then◌else◌, List, [], ◌∷◌, slice_index}
 use Rattle.std.specs.Int.{bit_at}
+use Rattle.ct_base.specs.declared.layout.TheConstants.{FIRST_PAGE, MOST_PAGES}
 
 -- a number of pages, and those of them that are free, in rising order
 pub record FreePages : Type 0 where
@@ -37,12 +38,12 @@ ZeroBelow words i = (k : ℕ) → k < i → slice_index words k ≡ 0
 
 -- what holds of the bits, of the place before which all words are 0 and of the count
 pub record AreFrames (words : List ℕ) (pages from total : ℕ) : Type 0 where
-  pub least : 34 ≤ pages
-  pub most : pages ≤ 262144
+  pub least : FIRST_PAGE ≤ pages
+  pub most : pages ≤ MOST_PAGES
   pub size : pages ≤ 64 * length words
-  pub short : length words ≤ 4096
+  pub short : length words ≤ MOST_PAGES / 64
   pub first : from ≤ length words
   pub zeros : ZeroBelow words from
-  pub low : (q : ℕ) → q < 34 → is_set words q ≡ false
+  pub low : (q : ℕ) → q < FIRST_PAGE → is_set words q ≡ false
   pub high : (q : ℕ) → pages ≤ q → is_set words q ≡ false
   pub count : total ≡ length (listed (is_set words) pages 0)

@@ -3,12 +3,9 @@ ghost use Rattle.ct_base.specs.Free.{IsRising};
 ghost use Rattle.ct_frames.specs.Free.{FreePages, inserted, without, rising};
 
 use crate::bits::{clear_bit, has_bit, lowest_bit, set_bit};
-use ct_base::{NoMemory, Page};
+use ct_base::{FIRST_PAGE, MOST_PAGES, NoMemory, Page};
 use std::alloc::Global;
 use std::marker::Model;
-
-/// Pages 0 to 33 hold the superblock, the redo record and the root table, and are never free.
-const FIRST: u64 = 34;
 
 /// The pages of a device that are free.
 #[derive(Drop)]
@@ -31,24 +28,24 @@ impl Model for Frames {
 }
 
 impl Frames {
-    /// The pages from 34 on, all free.
+    /// The pages that may be handed out, all free: those from `FIRST_PAGE` on.
     pub fn new(alloc: Global, pages: u64) -> Result<Frames, NoMemory>
-        requires least { 34 ≤ pages }
-        requires most { pages ≤ 262144 }
-        ensures { IfOk result (λ f. f ≡ record { pages = pages; free = rising (pages - 34) 34 }) }
+        requires least { FIRST_PAGE ≤ pages }
+        requires most { pages ≤ MOST_PAGES }
+        ensures { IfOk result (λ f. f ≡ record { pages = pages; free = rising (pages - FIRST_PAGE) FIRST_PAGE }) }
     {
         let mut words = match vec![in alloc; 0u64; (pages as usize + 63) / 64] {
             Ok(words) => words,
             Err(_) => return Err(NoMemory),
         };
-        for page in FIRST..pages {
+        for page in FIRST_PAGE..pages {
             set_bit(&mut words, page);
         }
         Ok(Frames {
             words,
             pages,
             first: 0,
-            free: pages - FIRST,
+            free: pages - FIRST_PAGE,
         })
     }
 
@@ -58,8 +55,8 @@ impl Frames {
         ensures least { IfSome result (λ page. (q : ℕ) → Contains self.new.free q → page < q) }
         ensures none { IfNone result ((self.old.free ≡ []) × (self.new.free ≡ [])) }
         ensures pages { self.new.pages ≡ self.old.pages }
-        ensures in_range { IfSome result (λ page. (34 ≤ page) × (page < self.old.pages)) }
-        ensures small { IfSome result (λ page. page < 262144) }
+        ensures in_range { IfSome result (λ page. (FIRST_PAGE ≤ page) × (page < self.old.pages)) }
+        ensures small { IfSome result (λ page. page < MOST_PAGES) }
     {
         let page = lowest_bit(&self.words, self.first)?;
         clear_bit(&mut self.words, page);
@@ -70,7 +67,7 @@ impl Frames {
 
     /// Gives a page back.
     pub fn give(&mut self, page: Page)
-        requires low { 34 ≤ page }
+        requires low { FIRST_PAGE ≤ page }
         requires high { page < self.old.pages }
         requires used { ¬ Contains self.old.free page }
         ensures { self.new ≡ record self.old { free = inserted page self.old.free } }
@@ -102,7 +99,7 @@ impl Frames {
     pub fn free(&self) -> u64
         ensures count { result ≡ length self.now.free }
         ensures rising { IsRising self.now.free }
-        ensures in_range { (q : ℕ) → Contains self.now.free q → (34 ≤ q) × (q < self.now.pages) }
+        ensures in_range { (q : ℕ) → Contains self.now.free q → (FIRST_PAGE ≤ q) × (q < self.now.pages) }
     {
         self.free
     }

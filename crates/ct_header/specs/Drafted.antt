@@ -1,5 +1,6 @@
 -- Header words that are changed by the pairs of a draft.
 use Rattle.std.specs.Prelude.{◌≡◌, ◌≢◌, ℕ, ◌+◌, ◌/◌, ◌<◌, ◌≤◌, ◌∷◌, ◌++◌, true, List, All, Contains}
+use Rattle.ct_base.specs.declared.layout.TheConstants.{PAGE_BYTES}
 use Rattle.ct_base.specs.Headers.{StandFor, is_one, without}
 use Rattle.ct_base.specs.Inode.{Partition, is_free, number_of}
 use Rattle.ct_base.specs.Published.{header_words}
@@ -10,7 +11,7 @@ use Rattle.ct_base.specs.Words.{place_at}
 
 -- the pages of the header words on the path of a partition are there
 abbrev pub AreThere : List ℕ → Partition → Type 0
-AreThere img p = (a : ℕ) → Contains (header_words p) a → page_at img 4 (a / 4096) ≢ 0
+AreThere img p = (a : ℕ) → Contains (header_words p) a → page_at img 4 (a / PAGE_BYTES) ≢ 0
 
 -- the device word is one at which a header word on the path of a partition lies
 pub record NamesHeader (img : List ℕ) (p : Partition) (w : ℕ) : Type 0 where

@@ -4,29 +4,39 @@ ghost use Rattle.ct_base.specs.Ranges.{header_at};
 ghost use Rattle.ct_level.specs.Any.{partition};
 
 use arrayvec::ArrayVec;
+use ct_base::{SLOT_SPAN, TOP_LEVEL};
 use ct_level::AnyPart;
 
-/// The address of the header word of the range with a number, of a level from 1 on; the words of the level-9 bytes are those
-/// of level 10.
+/// The bytes of the headers of level 1, which come first.
+const LOWEST_BYTES: u64 = 1 << 36;
+
+/// The bytes from the headers of one level above to those of the next.
+const LEVEL_BYTES: u64 = 1 << 33;
+
+/// The most header words on the path of a partition: one for each level from 1 on, and one for the byte of the root slot.
+pub const MOST_WORDS: usize = 10;
+
+/// The address of the header word of the range with a number, of a level from 1 on; the words of the bytes of the
+/// top level are those of the level above it.
 #[tactic(auto, using(ct_parts::proofs::Path::number_small, ct_parts::proofs::Path::header_at_one, ct_parts::proofs::Path::header_at_more))]
 pub fn header_address(level: u32, number: u64) -> u64
     requires low { 1 ≤ level }
-    requires high { level ≤ 10 }
-    requires number { number < 64 * 8 ^ (10 - level) }
+    requires high { level ≤ TOP_LEVEL + 1 }
+    requires number { number < 64 * 8 ^ (TOP_LEVEL + 1 - level) }
     ensures value { result ≡ header_at level number }
     ensures aligned { result % 8 ≡ 0 }
-    ensures first { 2 ^ 39 ≤ result }
-    ensures last { result < 2 ^ 40 }
+    ensures first { SLOT_SPAN ≤ result }
+    ensures last { result < 2 * SLOT_SPAN }
 {
-    let slot = 549_755_813_888 + 8 * number;
+    let slot = SLOT_SPAN + 8 * number;
     if level == 1 {
         return slot;
     }
-    slot + 68_719_476_736 + (level as u64 - 2) * 8_589_934_592
+    slot + LOWEST_BYTES + (level as u64 - 2) * LEVEL_BYTES
 }
 
 /// The addresses of header words, at most one for each level from 1 on and one for the byte of the root slot.
-pub type HeaderWords = ArrayVec<u64, 10>;
+pub type HeaderWords = ArrayVec<u64, MOST_WORDS>;
 
 /// The addresses of the header words on the path of a partition: those of the ranges above it, the lowest first, and the
 /// word in which the byte of its root slot stands.

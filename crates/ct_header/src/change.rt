@@ -8,7 +8,9 @@ ghost use Rattle.ct_record.specs.Seen.{drafted};
 ghost use Rattle.ct_header.specs.Drafted.{JoinsLive, KeepsOtherBytes, LeavesLive};
 ghost use Rattle.ct_words.specs.Drafted.{KeepsCells};
 
+use crate::address::MOST_WORDS;
 use crate::path::set_path;
+use ct_base::MOST_LONG_PAIRS;
 use ct_level::AnyPart;
 use ct_pm::{Pm, PmFault};
 use ct_record::Draft;
@@ -23,7 +25,7 @@ use ct_record::Draft;
 pub fn take<D: Pm>(draft: &mut Draft<D>, part: AnyPart) -> Result<(), PmFault>
     requires maps { MapsAlike 1 (words_under draft.old) (drafted draft.old) }
     requires there { AreThere (words_under draft.old) (partition part) }
-    requires room { count_of draft.old + 10 ≤ 8184 }
+    requires room { count_of draft.old + MOST_WORDS ≤ MOST_LONG_PAIRS }
 
     ensures stand { OnOk result (JoinsLive (partition part) (drafted draft.old) (drafted draft.new)) }
     ensures bytes { OnOk result (KeepsOtherBytes (partition part) (drafted draft.old) (drafted draft.new)) }
@@ -31,7 +33,7 @@ pub fn take<D: Pm>(draft: &mut Draft<D>, part: AnyPart) -> Result<(), PmFault>
     ensures maps { OnOk result (MapsAlike 1 (words_under draft.new) (drafted draft.new)) }
 
     ensures pairs { AddsPairs (NamesHeader (words_under draft.old) (partition part)) (pairs_of draft.old) (pairs_of draft.new) }
-    ensures count { OnOk result (count_of draft.new + (partition part).level ≡ count_of draft.old + 10) }
+    ensures count { OnOk result (count_of draft.new + (partition part).level ≡ count_of draft.old + MOST_WORDS) }
     ensures drafts { Drafts draft.old draft.new }
     ensures cause { HasCause (faults_under draft.old) (faults_under draft.new) result }
 {
@@ -51,7 +53,7 @@ pub fn take<D: Pm>(draft: &mut Draft<D>, part: AnyPart) -> Result<(), PmFault>
 pub fn release<D: Pm>(draft: &mut Draft<D>, part: AnyPart) -> Result<(), PmFault>
     requires maps { MapsAlike 1 (words_under draft.old) (drafted draft.old) }
     requires there { AreThere (words_under draft.old) (partition part) }
-    requires room { count_of draft.old + 10 ≤ 8184 }
+    requires room { count_of draft.old + MOST_WORDS ≤ MOST_LONG_PAIRS }
 
     ensures stand { OnOk result (LeavesLive (partition part) (drafted draft.old) (drafted draft.new)) }
     ensures bytes { OnOk result (KeepsOtherBytes (partition part) (drafted draft.old) (drafted draft.new)) }
@@ -59,7 +61,7 @@ pub fn release<D: Pm>(draft: &mut Draft<D>, part: AnyPart) -> Result<(), PmFault
     ensures maps { OnOk result (MapsAlike 1 (words_under draft.new) (drafted draft.new)) }
 
     ensures pairs { AddsPairs (NamesHeader (words_under draft.old) (partition part)) (pairs_of draft.old) (pairs_of draft.new) }
-    ensures count { OnOk result (count_of draft.new + (partition part).level ≡ count_of draft.old + 10) }
+    ensures count { OnOk result (count_of draft.new + (partition part).level ≡ count_of draft.old + MOST_WORDS) }
     ensures drafts { Drafts draft.old draft.new }
     ensures cause { HasCause (faults_under draft.old) (faults_under draft.new) result }
 {

@@ -9,8 +9,8 @@ ghost use Rattle.ct_header.specs.First.{IsFirstOf};
 ghost use Rattle.ct_words.specs.Shown.{shown_word};
 
 use crate::scan::{first_child, first_slot};
-use ct_base::Vaddr;
-use ct_level::{AnyPart, length_of};
+use ct_base::{TOP_LEVEL, Vaddr};
+use ct_level::{AnyPart, TOP, length_of};
 use ct_pm::Pm;
 
 /// The partition of a level with a number.
@@ -47,12 +47,12 @@ fn down<D: Pm>(dev: &D, level: u32, number: u64, sought: u32) -> u64
 /// It reads at most 72 header words.
 pub fn pick<D: Pm>(dev: &D, level: u32) -> Option<AnyPart>
     requires tables { AreTables (D.words dev.now) }
-    requires level { level ≤ 9 }
+    requires level { level ≤ TOP_LEVEL }
     requires stands { (ps : List Partition) × StandFor (view (D.words dev.now)) ps }
     ensures { (ps : List Partition) → StandFor (view (D.words dev.now)) ps → IsFirstOf (free_parts ps level) result }
 {
     let mut number = first_slot(dev, level)?;
-    let mut above = 9;
+    let mut above = TOP;
     while above > level {
         above -= 1;
         number = down(dev, above, number, level);

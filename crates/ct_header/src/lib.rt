@@ -10,7 +10,7 @@ mod path;
 mod scan;
 mod sum;
 
-pub use address::{HeaderWords, header_address, words};
+pub use address::{HeaderWords, MOST_WORDS, header_address, words};
 pub use change::{release, take};
 pub use free::pick;
 pub use sum::summary_of;

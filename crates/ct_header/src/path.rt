@@ -12,8 +12,9 @@ ghost use Rattle.ct_words.specs.Drafted.{KeepsCells, MapsAlike};
 ghost use Rattle.ct_words.specs.Shown.{shown_word};
 ghost use Rattle.ct_header.specs.Bytes.{with_byte};
 
-use crate::address::header_address;
+use crate::address::{MOST_WORDS, header_address};
 use crate::sum::summary_of;
+use ct_base::{MOST_LONG_PAIRS, PAGE_BYTES, TABLE_ENTRIES, TOP_LEVEL};
 use ct_pm::{Pm, PmFault};
 use ct_record::Draft;
 use ct_words::{store_at, value_at};
@@ -22,10 +23,10 @@ use ct_words::{store_at, value_at};
 /// where it is not live.
 fn set_byte<D: Pm>(draft: &mut Draft<D>, level: u32, number: u64, byte: u8) -> Result<u8, PmFault>
     requires maps { MapsAlike 1 (words_under draft.old) (drafted draft.old) }
-    requires level { level ≤ 9 }
-    requires number { number < 512 * 8 ^ (9 - level) }
-    requires there { page_at (words_under draft.old) 4 (header_at (level + 1) (number / 8) / 4096) ≢ 0 }
-    requires room { count_of draft.old < 8184 }
+    requires level { level ≤ TOP_LEVEL }
+    requires number { number < TABLE_ENTRIES * 8 ^ (TOP_LEVEL - level) }
+    requires there { page_at (words_under draft.old) 4 (header_at (level + 1) (number / 8) / PAGE_BYTES) ≢ 0 }
+    requires room { count_of draft.old < MOST_LONG_PAIRS }
 
     ensures written { OnOk result (shown_word (drafted draft.new) (header_at (level + 1) (number / 8))
         ≡ from_le_bytes w64 (with_byte (shown_word (drafted draft.old) (header_at (level + 1) (number / 8))) (number % 8) byte)) }
@@ -60,7 +61,7 @@ pub fn set_path<D: Pm>(
     requires maps { MapsAlike 1 (words_under draft.old) (drafted draft.old) }
     requires partition { IsPartition level number }
     requires there { AreThere (words_under draft.old) (nth level number) }
-    requires room { count_of draft.old + (10 - level) ≤ 8184 }
+    requires room { count_of draft.old + (MOST_WORDS - level) ≤ MOST_LONG_PAIRS }
 
     ensures headers { OnOk result ((old new : ℕ → ℕ → Bool) → Headers old (shown_word (drafted draft.old)) → Changes old new level number byte
         → Headers new (shown_word (drafted draft.new))) }
@@ -69,7 +70,7 @@ pub fn set_path<D: Pm>(
     ensures maps { OnOk result (MapsAlike 1 (words_under draft.new) (drafted draft.new)) }
 
     ensures pairs { AddsPairs (NamesHeader (words_under draft.old) (nth level number)) (pairs_of draft.old) (pairs_of draft.new) }
-    ensures count { OnOk result (count_of draft.new ≡ count_of draft.old + (10 - level)) }
+    ensures count { OnOk result (count_of draft.new ≡ count_of draft.old + (MOST_WORDS - level)) }
     ensures drafts { Drafts draft.old draft.new }
     ensures cause { HasCause (faults_under draft.old) (faults_under draft.new) result }
 {

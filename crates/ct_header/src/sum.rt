@@ -1,10 +1,12 @@
 ghost use Rattle.std.specs.Prelude.{◌≡◌, ℕ, ◌+◌, ◌-◌, ◌<◌, ◌≤◌, length, take, true};
 ghost use Rattle.ct_base.specs.Ranges.{best, summary, rank, are_zero};
 
+use ct_base::TOP_LEVEL;
+
 /// 1 and the greatest level of a free range among the children of a level, by their bytes.
 #[tactic(auto, using(ct_parts::proofs::Bytes::best_more))]
 fn best_of(bytes: &[u8], level: u32) -> u8
-    requires { level ≤ 9 }
+    requires { level ≤ TOP_LEVEL }
     ensures value { result ≡ best level bytes.now }
     ensures most { result ≤ 223 }
 {
@@ -35,7 +37,7 @@ fn are_all_zero(bytes: &[u8]) -> bool
 /// The byte of a range that is not live, by the bytes of its children, which are of a level.
 #[tactic(auto, unfolding(ct_base::specs::Ranges::summary))]
 pub fn summary_of(bytes: &[u8], level: u32) -> u8
-    requires { level ≤ 9 }
+    requires { level ≤ TOP_LEVEL }
     ensures { result ≡ summary level bytes.now }
 {
     if are_all_zero(bytes) {

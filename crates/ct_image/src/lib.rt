@@ -9,25 +9,27 @@ ghost use Rattle.ct_base.specs.Walk.{walk, byte, page_at, page_count, AreTables,
 ghost use Rattle.ct_base.specs.Wants.{Want, is_wanted, missing};
 ghost use Rattle.ct_image.specs.Changes.{Links, Unreached};
 
+use ct_base::{ADDRESS_END, FIRST_PAGE, PAGE_BYTES, TABLE_ENTRIES};
+
 /// The walk at an address is the page of the cell of its virtual page.
 pub fn walks_are_cells()
-    ensures { (img : List ℕ) → (v : ℕ) → v < 2 ^ 48 → walk img v ≡ page_at img 4 (v / 4096) }
+    ensures { (img : List ℕ) → (v : ℕ) → v < ADDRESS_END → walk img v ≡ page_at img 4 (v / PAGE_BYTES) }
 {}
 
-/// A page under a live file is one of pages 34 to the page count less 1.
+/// A page under a live file is one of those from the first that may be handed out to the page count less 1.
 pub fn file_pages_are_pages()
-    ensures { (img : List ℕ) → (page : ℕ) → IsFilePage img page → (34 ≤ page) × (page < page_count img) }
+    ensures { (img : List ℕ) → (page : ℕ) → IsFilePage img page → (FIRST_PAGE ≤ page) × (page < page_count img) }
 {}
 
 /// A page that is linked leaves the tables well formed, and each byte what it was.
 pub fn links_keep_bytes()
     ensures tables { (old new : List ℕ) → (d x i page : ℕ) → Links old new d x i page → AreTables new }
-    ensures bytes { (old new : List ℕ) → (d x i page : ℕ) → Links old new d x i page → (v : ℕ) → v < 2 ^ 48 → byte new v ≡ byte old v }
+    ensures bytes { (old new : List ℕ) → (d x i page : ℕ) → Links old new d x i page → (v : ℕ) → v < ADDRESS_END → byte new v ≡ byte old v }
 {}
 
 /// A page that is linked where it is wanted takes exactly one from what is missing.
 pub fn links_are_counted()
-    ensures { (old new : List ℕ) → (d x i page : ℕ) → (wants : List Want) → Links old new d x i page → is_wanted wants (suc d) (x * 512 + i) ≡ true → missing new wants + 1 ≡ missing old wants }
+    ensures { (old new : List ℕ) → (d x i page : ℕ) → (wants : List Want) → Links old new d x i page → is_wanted wants (suc d) (x * TABLE_ENTRIES + i) ≡ true → missing new wants + 1 ≡ missing old wants }
 {}
 
 /// What is written on a page that no cell has changes no table and no byte.

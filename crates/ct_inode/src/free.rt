@@ -4,18 +4,16 @@ ghost use Rattle.ct_base.specs.Plan.{first_free_number, free_number};
 ghost use Rattle.ct_base.specs.View.{view};
 ghost use Rattle.ct_base.specs.Walk.{AreTables};
 
-use crate::read::first_word;
+use crate::read::{IN_PAGE, first_word};
+use ct_base::MOST_INODES;
 use ct_pm::Pm;
-
-/// How many inodes share a page.
-const IN_PAGE: u64 = 64;
 
 // The lowest number of a free inode from `from` to `past - 1`, all in one page.
 fn free_in_page<D: Pm>(dev: &D, from: u64, past: u64) -> Option<u64>
     requires tables { AreTables (D.words dev.now) }
     requires some { from < past }
-    requires page { past ≤ from / 64 * 64 + 64 }
-    requires few { past ≤ 1048577 }
+    requires page { past ≤ from / IN_PAGE * IN_PAGE + IN_PAGE }
+    requires few { past ≤ MOST_INODES + 1 }
     ensures { result ≡ free_number (view (D.words dev.now)) from (past - from) }
 {
     match first_word(dev, from) {
@@ -33,10 +31,10 @@ fn free_in_page<D: Pm>(dev: &D, from: u64, past: u64) -> Option<u64>
 
 /// The lowest number of a free inode from 1 to `count`, `None` exactly where all are live.
 ///
-/// It walks once for each 64 inodes, and loads one word for each; where a page is not there, its first inode is free.
+/// It walks once for each page of inodes, and loads one word for each; where a page is not there, its first inode is free.
 pub fn first_free<D: Pm>(dev: &D, count: u64) -> Option<u64>
     requires tables { AreTables (D.words dev.now) }
-    requires few { count ≤ 1048576 }
+    requires few { count ≤ MOST_INODES }
     ensures { result ≡ first_free_number (view (D.words dev.now)) count }
 {
     let mut n = 1;

@@ -4,7 +4,7 @@ ghost use Rattle.ct_base.specs.Ranges.{IsPartition};
 ghost use Rattle.ct_level.specs.Any.{partition};
 
 use crate::part::Part;
-use ct_base::Vaddr;
+use ct_base::{PARTITION_SLOT, SLOT_SPAN, TOP_LEVEL, Vaddr};
 
 /// A partition of some level.
 #[derive(Clone, Copy, Debug, PartialEq, Eq, Drop)]
@@ -70,11 +70,11 @@ macro_rules! with_part {
 }
 
 impl AnyPart {
-    /// The partition of a level at an address, `None` above level 9, and where the address is not aligned or lies below root
-    /// slot 10.
+    /// The partition of a level at an address, `None` above the top level, and where the address is not aligned or lies below
+    /// the root slots of partitions.
     pub fn at(level: u32, base: Vaddr) -> Option<AnyPart>
         ensures value { IfSome result (λ p. partition p ≡ record { base = base; level = level }) }
-        ensures none { IsNone result ↔ ((9 < level) ⊎ ((base % part_bytes level ≢ 0) ⊎ (base / 2 ^ 39 < 10))) }
+        ensures none { IsNone result ↔ ((TOP_LEVEL < level) ⊎ ((base % part_bytes level ≢ 0) ⊎ (base / SLOT_SPAN < PARTITION_SLOT))) }
     {
         match level {
             0 => Some(AnyPart::P0(Part::<0>::at(base)?)),
@@ -94,7 +94,7 @@ impl AnyPart {
     /// The level.
     pub fn level(self) -> u32
         ensures value { result ≡ (partition self).level }
-        ensures bound { result ≤ 9 }
+        ensures bound { result ≤ TOP_LEVEL }
     {
         with_part!(self, (level, _part) => level)
     }

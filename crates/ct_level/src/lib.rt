@@ -9,4 +9,4 @@ mod part;
 
 pub use any::AnyPart;
 pub use level::level_for;
-pub use part::{Part, length_of};
+pub use part::{Part, TOP, length_of};

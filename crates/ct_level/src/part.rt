@@ -1,12 +1,15 @@
-ghost use Rattle.std.specs.Prelude.{◌≡◌, ◌≢◌, ◌+◌, ◌*◌, ◌/◌, ◌%◌, ◌^◌, ◌<◌, ◌≤◌, ◌↔◌, ◌⊎◌, IsTrue, IfSome, IsNone};
+ghost use Rattle.std.specs.Prelude.{◌≡◌, ◌≢◌, ◌+◌, ◌*◌, ◌/◌, ◌%◌, ◌<◌, ◌≤◌, ◌↔◌, ◌⊎◌, IsTrue, IfSome, IsNone};
 ghost use Rattle.ct_base.specs.Inode.{IsIn, nth, part_bytes, part_end};
 ghost use Rattle.ct_base.specs.Ranges.{IsPartition};
 
-use ct_base::Vaddr;
+use ct_base::{ADDRESS_END, PAGE_BYTES, PARTITION_SLOT, SLOT_SPAN, TOP_LEVEL, Vaddr};
 use std::marker::Model;
 
-/// The first address of root slot 10, where the partitions begin.
-const FIRST_ADDRESS: u64 = 10 << 39;
+/// The first address of the root slots in which partitions lie.
+const FIRST_ADDRESS: u64 = PARTITION_SLOT * SLOT_SPAN;
+
+/// The highest level, as levels are counted here.
+pub const TOP: u32 = TOP_LEVEL as u32;
 
 /// A partition of level `L`: `4096 * 8^L` bytes whose base is a multiple of that, in root slots 10 to 511.
 ///
@@ -32,20 +35,21 @@ impl<const L: u32> Model for Part<L> {
 /// The length of a partition of a level, in bytes.
 #[tactic(auto, using(ct_parts::proofs::Lengths::pow8_small))]
 pub fn length_of(level: u32) -> u64
-    requires { level ≤ 9 }
+    requires { level ≤ TOP_LEVEL }
     ensures value { result ≡ part_bytes level }
     ensures positive { 0 < result }
 {
-    4096 * 8u64.pow(level)
+    PAGE_BYTES * 8u64.pow(level)
 }
 
 impl<const L: u32> Part<L> {
-    /// The partition at an address, `None` where the address is not aligned or lies below root slot 10.
+    /// The partition at an address, `None` where the address is not aligned or lies below the root slots of
+    /// partitions.
     #[tactic(auto, using(ct_parts::proofs::Lengths::pow8_small, ct_parts::proofs::Lengths::at_partition))]
     pub fn at(base: Vaddr) -> Option<Part<L>>
-        requires { L ≤ 9 }
+        requires { L ≤ TOP_LEVEL }
         ensures value { IfSome result (λ p. (nth L p).base ≡ base) }
-        ensures none { IsNone result ↔ ((base % part_bytes L ≢ 0) ⊎ (base / 2 ^ 39 < 10)) }
+        ensures none { IsNone result ↔ ((base % part_bytes L ≢ 0) ⊎ (base / SLOT_SPAN < PARTITION_SLOT)) }
     {
         let address = base.get();
         let length = length_of(L);
@@ -79,8 +83,8 @@ impl<const L: u32> Part<L> {
     #[tactic(auto, using(ct_parts::proofs::Lengths::partition_bounds))]
     pub fn base(self) -> Vaddr
         ensures value { result ≡ (nth L self.entry).base }
-        ensures low { 10 * 2 ^ 39 ≤ result }
-        ensures high { result + part_bytes L ≤ 2 ^ 48 }
+        ensures low { PARTITION_SLOT * SLOT_SPAN ≤ result }
+        ensures high { result + part_bytes L ≤ ADDRESS_END }
     {
         address(self.number * length_of(L))
     }
@@ -96,7 +100,7 @@ impl<const L: u32> Part<L> {
 
 /// An address below the last one.
 fn address(v: u64) -> Vaddr
-    requires { v < 2 ^ 48 }
+    requires { v < ADDRESS_END }
     ensures { result ≡ v }
 {
     match Vaddr::new(v) {

@@ -5,14 +5,15 @@ use Rattle.ct_base.specs.Headers.{is_one, header_byte, HeadersStand, AreDisjoint
 use Rattle.ct_base.specs.Ranges.{Headers, IsPartition, IsFree, IsFirstFree}
 use Rattle.ct_base.specs.Rules.{ArePlaced, ArePartsApart, AreHeaders}
 use Rattle.ct_base.specs.Published.{IsByte}
+use Rattle.ct_base.specs.declared.layout.TheConstants.{TOP_LEVEL}
 
 -- each header byte is the one that the format asks for
 abbrev pub BytesAreTheFormats : Type 0
-BytesAreTheFormats = (ps : List Partition) (n j : ℕ) → n ≤ 9 → AreDisjoint ps → IsByte (is_one ps) n j (header_byte ps n j)
+BytesAreTheFormats = (ps : List Partition) (n j : ℕ) → n ≤ TOP_LEVEL → AreDisjoint ps → IsByte (is_one ps) n j (header_byte ps n j)
 
 -- and the format asks for no other
 abbrev pub FormatsBytesAreThese : Type 0
-FormatsBytesAreThese = (ps : List Partition) (n j b : ℕ) → n ≤ 9 → AreDisjoint ps → IsByte (is_one ps) n j b → b ≡ header_byte ps n j
+FormatsBytesAreThese = (ps : List Partition) (n j b : ℕ) → n ≤ TOP_LEVEL → AreDisjoint ps → IsByte (is_one ps) n j b → b ≡ header_byte ps n j
 
 -- bytes stand for one set of partitions at most
 abbrev pub HeadersDetermineTheSet : Type 0
@@ -37,4 +38,4 @@ FirstFreeIsTheHead = (ps : List Partition) (n j : ℕ) → AreDisjoint ps → Is
 -- which is empty where none is free
 abbrev pub NoneFreeIsEmpty : Type 0
 NoneFreeIsEmpty =
-    (ps : List Partition) (n : ℕ) → n ≤ 9 → AreDisjoint ps → ((j : ℕ) → IsPartition n j → ¬ IsFree (is_one ps) n j) → free_parts ps n ≡ []
+    (ps : List Partition) (n : ℕ) → n ≤ TOP_LEVEL → AreDisjoint ps → ((j : ℕ) → IsPartition n j → ¬ IsFree (is_one ps) n j) → free_parts ps n ≡ []

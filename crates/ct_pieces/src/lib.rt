@@ -6,9 +6,11 @@ ghost use Rattle.std.specs.Prelude.{◌≡◌, ℕ, List, All, ◌+◌, ◌-◌,
 ghost use Rattle.std.specs.Iterator.{YieldsFirstBy, item_count};
 ghost use Rattle.ct_base.specs.Pieces.{fits, height_at, pieces, IsBlock, Covers, InOneSlot, AlignedAlike};
 
+use ct_base::{SLOT_PAGES, TABLE_ENTRIES};
 use std::marker::Model;
 
-/// An aligned run of `512 ^ height` pages, `offset` pages into both ranges. The height is from 0 to 3.
+/// An aligned run of as many pages as a table of level `height` leads to, `offset` pages into both ranges. The height is from
+/// 0 to 3, and 0 stands for one page.
 #[derive(Clone, Copy, Debug, PartialEq, Eq, Drop)]
 pub struct Piece {
     pub offset: u64,
@@ -27,20 +29,21 @@ pub struct Pieces {
 impl Model for Pieces {
     ghost use Rattle.std.specs.Prelude.{◌+◌, ◌-◌, ◌^◌, ◌≤◌, ℕ, List};
     ghost use Rattle.ct_base.specs.Pieces.{pieces_from};
+    ghost use Rattle.ct_base.specs.declared.layout.TheConstants.{TABLE_ENTRIES};
 
     ghost Value = { List (ℕ × ℕ) };
 
     ghost view = { λ p. pieces_from (p.n - p.at) p.a p.b p.n p.at };
 
-    ghost invariant = { λ p. (p.at ≤ p.n) × (p.a + p.n ≤ 2 ^ 36) × (p.b + p.n ≤ 2 ^ 36) };
+    ghost invariant = { λ p. (p.at ≤ p.n) × (p.a + p.n ≤ TABLE_ENTRIES ^ 4) × (p.b + p.n ≤ TABLE_ENTRIES ^ 4) };
 }
 
 /// Whether `width` pages from offset `i` on lie inside and begin at a multiple of `width` on both sides.
 fn is_fit(a: u64, b: u64, n: u64, i: u64, width: u64) -> bool
     requires some { 0 < width }
-    requires narrow { width ≤ 2 ^ 36 }
-    requires first { a + n ≤ 2 ^ 36 }
-    requires second { b + n ≤ 2 ^ 36 }
+    requires narrow { width ≤ TABLE_ENTRIES ^ 4 }
+    requires first { a + n ≤ TABLE_ENTRIES ^ 4 }
+    requires second { b + n ≤ TABLE_ENTRIES ^ 4 }
     requires inside { i ≤ n }
     ensures { result ≡ fits a b n i width }
 {
@@ -50,18 +53,18 @@ fn is_fit(a: u64, b: u64, n: u64, i: u64, width: u64) -> bool
 /// The greatest height at which a piece may begin at offset `i`.
 #[tactic(auto, using(crate::proofs::Steps::height_le, crate::proofs::Steps::height_inside), unfolding(ct_base::specs::Pieces::height_at))]
 fn greatest_height(a: u64, b: u64, n: u64, i: u64) -> u32
-    requires first { a + n ≤ 2 ^ 36 }
-    requires second { b + n ≤ 2 ^ 36 }
+    requires first { a + n ≤ TABLE_ENTRIES ^ 4 }
+    requires second { b + n ≤ TABLE_ENTRIES ^ 4 }
     requires inside { i ≤ n }
     ensures exact { result ≡ height_at a b n i }
     ensures low { result ≤ 3 }
-    ensures inside { i < n → i + 512 ^ result ≤ n }
+    ensures inside { i < n → i + TABLE_ENTRIES ^ result ≤ n }
 {
-    if is_fit(a, b, n, i, 134_217_728) {
+    if is_fit(a, b, n, i, SLOT_PAGES) {
         3
-    } else if is_fit(a, b, n, i, 262_144) {
+    } else if is_fit(a, b, n, i, TABLE_ENTRIES * TABLE_ENTRIES) {
         2
-    } else if is_fit(a, b, n, i, 512) {
+    } else if is_fit(a, b, n, i, TABLE_ENTRIES) {
         1
     } else {
         0
@@ -71,8 +74,8 @@ fn greatest_height(a: u64, b: u64, n: u64, i: u64) -> u32
 impl Pieces {
     /// The pieces of two ranges of `n` virtual pages, each as high as can be.
     pub fn new(a: u64, b: u64, n: u64) -> Pieces
-        requires first { a + n ≤ 2 ^ 36 }
-        requires second { b + n ≤ 2 ^ 36 }
+        requires first { a + n ≤ TABLE_ENTRIES ^ 4 }
+        requires second { b + n ≤ TABLE_ENTRIES ^ 4 }
         ensures { result ≡ pieces a b n }
     {
         Pieces { a, b, n, at: 0 }
@@ -92,7 +95,7 @@ impl Iterator for Pieces {
         }
         let offset = self.at;
         let height = greatest_height(self.a, self.b, self.n, offset);
-        self.at = offset + 512u64.pow(height);
+        self.at = offset + TABLE_ENTRIES.pow(height);
         Some(Piece { offset, height })
     }
 }
@@ -101,8 +104,8 @@ impl Iterator for Pieces {
 ///
 /// There are at most 2,555 where each range lies in one root slot and both begin alike.
 pub fn count(a: u64, b: u64, n: u64) -> u64
-    requires first { a + n ≤ 2 ^ 36 }
-    requires second { b + n ≤ 2 ^ 36 }
+    requires first { a + n ≤ TABLE_ENTRIES ^ 4 }
+    requires second { b + n ≤ TABLE_ENTRIES ^ 4 }
     ensures exact { result ≡ length (pieces a b n) }
     ensures least { (blocks : List (ℕ × ℕ)) → All (IsBlock a b n) blocks → Covers blocks n → result ≤ length blocks }
     ensures few { InOneSlot a n → InOneSlot b n → AlignedAlike a b n → result ≤ 2555 }

@@ -2,6 +2,8 @@
 ghost use Rattle.std.specs.Prelude.{◌≡◌, ◌+◌, ◌≤◌};
 ghost use Rattle.ct_plan.specs.Few.{alike as alike_of, edge as edge_of};
 
+use ct_base::TABLE_ENTRIES;
+
 /// The greatest height up to `top` at which two pages lie alike in their blocks.
 pub fn alike(top: u32, a: u64, b: u64) -> u32
     requires { top ≤ 3 }
@@ -11,7 +13,7 @@ pub fn alike(top: u32, a: u64, b: u64) -> u32
     if top == 0 {
         return 0;
     }
-    let width = 512u64.pow(top);
+    let width = TABLE_ENTRIES.pow(top);
     if a % width == b % width {
         top
     } else {

@@ -1,5 +1,6 @@
 ghost use Rattle.std.specs.Prelude.{◌≡◌, ◌*◌, ◌^◌, ◌/◌, ◌<◌, ◌≤◌, [], ◌∷◌, List, ℕ, Option, length, IfSome, OnOk, OnErr, slice_index, slice_set};
 ghost use Rattle.ct_base.specs.Causes.{HasCause};
+ghost use Rattle.ct_base.specs.declared.layout.TheConstants.{PAGE_WORDS};
 ghost use Rattle.ct_pm.specs.declared.step.Step.TheVariants.{Store, Flush, Fence};
 ghost use Rattle.ct_pm.specs.Images.{History, reads};
 ghost use Rattle.ct_pm.specs.Device.{AddsStep};
@@ -75,11 +76,11 @@ pub trait Pm {
     ghost replays: { (device : Self) → IfSome (told device) (λ h. words device ≡ reads h) };
 
     /// The words are those of the pages.
-    ghost whole_pages: { (device : Self) → length (words device) ≡ 512 * page_count device };
+    ghost whole_pages: { (device : Self) → length (words device) ≡ PAGE_WORDS * page_count device };
 
     /// A word fits a u64.
     ghost words_fit: { (device : Self) (word : ℕ) → slice_index (words device) word < 2 ^ 64 };
 
     /// And so does its number.
-    ghost words_count: { (device : Self) → 512 * page_count device ≤ 2 ^ 64 };
+    ghost words_count: { (device : Self) → PAGE_WORDS * page_count device ≤ 2 ^ 64 };
 }

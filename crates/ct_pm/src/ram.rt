@@ -1,9 +1,10 @@
 // A device over plain memory, which never fails and tells no images.
 ghost use Rattle.std.proofs.Common.{arith};
 ghost use Rattle.std.specs.Prelude.{◌≡◌, ◌≤◌, ◌*◌, ◌<◌, ◌^◌, ◌/◌, ℕ, Ok, None, length, IfOk, slice_index, slice_set, replicate};
+ghost use Rattle.ct_base.specs.declared.layout.TheConstants.{MOST_PAGES, PAGE_WORDS};
 
 use crate::{Pm, PmFault};
-use ct_base::NoMemory;
+use ct_base::{MOST_PAGES, NoMemory, PAGE_WORDS};
 use std::alloc::Global;
 
 /// Plain memory as a device: a load or a store is one access of memory, and no call fails. It tells no history.
@@ -11,25 +12,25 @@ use std::alloc::Global;
 pub struct RamPm {
     words: Vec<u64>,
     pages: u64,
-    ghost whole_pages: { length words.items ≡ 512 * pages },
+    ghost whole_pages: { length words.items ≡ PAGE_WORDS * pages },
     ghost words_fit: { (word : ℕ) → slice_index words.items word < 2 ^ 64 },
-    ghost few: { pages ≤ 262144 },
+    ghost few: { pages ≤ MOST_PAGES },
 }
 
 impl RamPm {
     ghost use Rattle.ct_pm.specs.Ram.{words_of, pages_of};
 
-    /// So many pages of words that are all 0.
+    /// So many pages of words that are all 0, at most `MOST_PAGES`.
     ///
     /// # Errors
     ///
     /// `NoMemory` where memory ran out.
     pub fn new(alloc: Global, pages: u64) -> Result<RamPm, NoMemory>
-        requires { pages ≤ 262144 }
-        ensures words { IfOk result (λ device. words_of device ≡ replicate (512 * pages) 0) }
+        requires { pages ≤ MOST_PAGES }
+        ensures words { IfOk result (λ device. words_of device ≡ replicate (PAGE_WORDS * pages) 0) }
         ensures pages { IfOk result (λ device. pages_of device ≡ pages) }
     {
-        match vec![in alloc; 0; 512 * pages as usize] {
+        match vec![in alloc; 0; (PAGE_WORDS * pages) as usize] {
             Ok(words) => Ok(RamPm { words, pages }),
             Err(_) => Err(NoMemory),
         }

@@ -1,12 +1,13 @@
 -- What an image settles to while a record is drafted, armed, applied and closed.
-use Rattle.std.specs.Prelude.{◌≡◌, ◌⊎◌, ℕ, ◌+◌, ◌*◌, ◌/◌, ◌<◌, ◌≤◌, List, [], Option, Result, OnOk, length, slice_index, ◌≢◌, zero, suc}
+use Rattle.std.specs.Prelude.{◌≡◌, ◌⊎◌, ℕ, ◌+◌, ◌-◌, ◌*◌, ◌/◌, ◌<◌, ◌≤◌, List, [], Option, Result, OnOk, length, slice_index, ◌≢◌, zero, suc}
+use Rattle.ct_base.specs.declared.layout.TheConstants.{LONG_GATE, LONG_PAIRS, MOST_LONG_PAIRS, MOST_SHORT_PAIRS, PAGE_WORDS, ROOT_WORD, SHORT_GATE, SHORT_PAIRS, STAGING_SLOT, STAGING_SLOTS}
 use Rattle.ct_base.specs.Settled.{Pair, with_pairs, pairs_at, open_pairs, settled, IsShut, HasFewPairs, HasPages, HaveTargets, Named, Gives, IsRecord}
 use Rattle.ct_pm.specs.Images.{History}
 use Rattle.ct_pm.specs.Device.{LeavesOnly, MakesOnly, NothingPending, SameOff, IsIn}
 
--- the word lies in pages 1 to 32
+-- the word lies in the pages of the record, 1 to 32: those from the long gate up to the root table
 abbrev pub InRecord : ℕ → Type 0
-InRecord = IsIn 512 16384
+InRecord = IsIn LONG_GATE (ROOT_WORD - LONG_GATE)
 
 -- the image settles to what the words settle to, pages 1 to 32 aside
 abbrev pub SettlesTo : List ℕ → List ℕ → Type 0
@@ -15,11 +16,11 @@ SettlesTo words image = SameOff InRecord (settled image) (settled words)
 -- the image has as many words, and page 0 is the same
 pub record KeepsHead (words image : List ℕ) : Type 0 where
   pub size : length image ≡ length words
-  pub head : (word : ℕ) → word < 512 → slice_index image word ≡ slice_index words word
+  pub head : (word : ℕ) → word < PAGE_WORDS → slice_index image word ≡ slice_index words word
 
 -- a gate is open
 abbrev pub IsOpen : List ℕ → Type 0
-IsOpen words = 0 < slice_index words 512 + slice_index words 527
+IsOpen words = 0 < slice_index words LONG_GATE + slice_index words SHORT_GATE
 
 -- no record is open in the image, or one of just these pairs
 abbrev pub OpensOnly : List Pair → List ℕ → Type 0
@@ -43,19 +44,19 @@ SettlesToEither pairs words image = SettlesTo words image ⊎ SettlesTo (with_pa
 
 -- every pair names a word off pages 0 to 32
 abbrev pub AreApart : List Pair → Type 0
-AreApart pairs = (word : ℕ) → Named pairs word → 16896 ≤ word
+AreApart pairs = (word : ℕ) → Named pairs word → ROOT_WORD ≤ word
 
 -- the word lies in pages 1 to 32, whatever it gets
 abbrev pub StaysInRecord : ℕ → ℕ → Type 0
 StaysInRecord word value = InRecord word
 
--- the word is root slot 2 to 9
+-- the word is a root slot for staging
 abbrev pub IsStaging : ℕ → Type 0
-IsStaging word = (16898 ≤ word) × (word < 16906)
+IsStaging word = (ROOT_WORD + STAGING_SLOT ≤ word) × (word < ROOT_WORD + STAGING_SLOT + STAGING_SLOTS)
 
 -- the word is one of the three short pairs, or the short gate
 abbrev pub InLine : ℕ → Type 0
-InLine word = ((520 ≤ word) × (word < 526)) ⊎ (word ≡ 527)
+InLine word = ((SHORT_PAIRS ≤ word) × (word < SHORT_PAIRS + 2 * MOST_SHORT_PAIRS)) ⊎ (word ≡ SHORT_GATE)
 
 -- where the word lies in pages 1 to 32, it is one of the three short pairs or the short gate
 abbrev pub StaysInLine : ℕ → ℕ → Type 0
@@ -63,22 +64,22 @@ StaysInLine word value = InRecord word → InLine word
 
 -- where so many drafted pairs stand: up to three in the line of the short gate
 unfoldable pub place_of : ℕ → ℕ
-place_of zero = 520
-place_of (suc zero) = 520
-place_of (suc (suc zero)) = 520
-place_of (suc (suc (suc zero))) = 520
-place_of (suc (suc (suc (suc n)))) = 528
+place_of zero = SHORT_PAIRS
+place_of (suc zero) = SHORT_PAIRS
+place_of (suc (suc zero)) = SHORT_PAIRS
+place_of (suc (suc (suc zero))) = SHORT_PAIRS
+place_of (suc (suc (suc (suc n)))) = LONG_PAIRS
 
 -- the word is one that pairs may have been stored to, where the long ones end before a word
 abbrev pub IsTouched : ℕ → ℕ → Type 0
-IsTouched end word = (520 ≤ word) × (word < end) × (word ≢ 526) × (word ≢ 527)
+IsTouched end word = (SHORT_PAIRS ≤ word) × (word < end) × (word ≢ SHORT_PAIRS + 2 * MOST_SHORT_PAIRS) × (word ≢ SHORT_GATE)
 
 -- pairs that may be armed
 pub record IsFull (from count end : ℕ) (words : List ℕ) : Type 0 where
   pub some : 0 < count
-  pub few : count ≤ 8184
-  pub low : 528 ≤ end
-  pub high : end ≤ 16896
+  pub few : count ≤ MOST_LONG_PAIRS
+  pub low : LONG_PAIRS ≤ end
+  pub high : end ≤ ROOT_WORD
   pub shut : IsShut words
   pub pages : HasPages words
   pub targets : HaveTargets from count words
@@ -100,7 +101,7 @@ SharesLine from i words = (k : ℕ) × (k < i) × (slice_index words (from + 2 *
 
 -- where the open pairs stand
 pub record IsPlace (from count : ℕ) (words : List ℕ) : Type 0 where
-  pub inside : from + 2 * count ≤ 16896
+  pub inside : from + 2 * count ≤ ROOT_WORD
   pub pairs : pairs_at from count words ≡ open_pairs words
   pub targets : HaveTargets from count words
 

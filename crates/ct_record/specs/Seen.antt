@@ -1,5 +1,6 @@
 -- What callers see of a record in each of its states.
 use Rattle.std.specs.Prelude.{◌≡◌, ◌<◌, ◌≤◌, ℕ, Option, List, Result, Ok, Err}
+use Rattle.ct_base.specs.declared.layout.TheConstants.{LONG_PAIRS, MOST_SHORT_PAIRS}
 use Rattle.ct_base.specs.Settled.{Pair, IsShut, pairs_at, with_pairs}
 use Rattle.ct_pm.specs.Images.{History}
 use Rattle.ct_pm.specs.Device.{SameOff, MakesOnly, LeavesOnly}
@@ -61,7 +62,7 @@ pairs_of {bound = bound} draft = pairs_at (place_of draft.count) draft.count (bo
 
 -- no fourth pair was begun: what was stored lies in the line of the short gate
 abbrev pub IsShort : {D : Type 0} {bound : _} → Draft D bound → Type 0
-IsShort draft = draft.end ≡ 528
+IsShort draft = draft.end ≡ LONG_PAIRS
 
 -- the words under a draft, once its pairs are applied
 abbrev pub drafted : {D : Type 0} {bound : _} → Draft D bound → List ℕ
@@ -81,4 +82,4 @@ pub record Drafts {D : Type 0} {bound : _} (old new : Draft D bound) : Type 0 wh
   pub short : IsShort new → IsShort old × MakesOnly StaysInLine (told_under old) (told_under new)
   -- no pair is dropped, and while there are fewer than three no fourth was begun
   pub more : count_of old ≤ count_of new
-  pub few : IsShort old → count_of new < 3 → IsShort new
+  pub few : IsShort old → count_of new < MOST_SHORT_PAIRS → IsShort new

@@ -7,6 +7,7 @@ ghost use Rattle.ct_record.specs.Record.{IsOpen, OpensOnly, Stand, InRecord, Sta
 
 use crate::gate::close_gate;
 use crate::{Broken, Idle};
+use ct_base::LONG_GATE;
 use ct_pm::Pm;
 
 /// A record that was applied: one gate is open, its pairs stand on the device, and nothing is pending.
@@ -54,8 +55,8 @@ impl<D: Pm> Applied<D> {
 
         // The record is lawful in it, with no more pairs than the long gate counts at entry, and so it is in the words as
         // they read.
-        ensures lawful { LeavesOnly (D.told (applied_dev self)) (D.told (after_finish result)) (HasFewPairs (slice_index (D.words (applied_dev self)) 512)) }
-        ensures reads_lawful { HasFewPairs (slice_index (D.words (applied_dev self)) 512) (D.words (after_finish result)) }
+        ensures lawful { LeavesOnly (D.told (applied_dev self)) (D.told (after_finish result)) (HasFewPairs (slice_index (D.words (applied_dev self)) LONG_GATE)) }
+        ensures reads_lawful { HasFewPairs (slice_index (D.words (applied_dev self)) LONG_GATE) (D.words (after_finish result)) }
 
         // No other pairs are ever open.
         ensures opens { LeavesOnly (D.told (applied_dev self)) (D.told (after_finish result)) (OpensOnly (open_pairs (D.words (applied_dev self)))) }
@@ -63,7 +64,7 @@ impl<D: Pm> Applied<D> {
         ensures cause { HasCause (D.faults (applied_dev self)) (D.faults (after_finish result)) result }
 
         // Where the long gate is closed, no word of pages 1 to 32 is stored to but those of the short record.
-        ensures in_line { slice_index (D.words (applied_dev self)) 512 ≡ 0 → MakesOnly StaysInLine (D.told (applied_dev self)) (D.told (after_finish result)) }
+        ensures in_line { slice_index (D.words (applied_dev self)) LONG_GATE ≡ 0 → MakesOnly StaysInLine (D.told (applied_dev self)) (D.told (after_finish result)) }
     {
         let Applied { mut dev } = self;
         match close_gate(&mut dev) {

@@ -8,6 +8,7 @@ ghost use Rattle.ct_base.specs.Settled.{Gives};
 
 use crate::pair::apply_record;
 use crate::{Applied, Broken};
+use ct_base::LONG_GATE;
 use ct_pm::Pm;
 
 /// A record that counts: one gate is open with its pairs behind it, and nothing is pending.
@@ -48,8 +49,8 @@ impl<D: Pm> Armed<D> {
 
         // The record is lawful in it, with no more pairs than the long gate counts at entry, and so it is in the words as
         // they read.
-        ensures lawful { LeavesOnly (D.told (armed_dev self)) (D.told (after_apply result)) (HasFewPairs (slice_index (D.words (armed_dev self)) 512)) }
-        ensures reads_lawful { HasFewPairs (slice_index (D.words (armed_dev self)) 512) (D.words (after_apply result)) }
+        ensures lawful { LeavesOnly (D.told (armed_dev self)) (D.told (after_apply result)) (HasFewPairs (slice_index (D.words (armed_dev self)) LONG_GATE)) }
+        ensures reads_lawful { HasFewPairs (slice_index (D.words (armed_dev self)) LONG_GATE) (D.words (after_apply result)) }
 
         // No other pairs are ever open.
         ensures opens { LeavesOnly (D.told (armed_dev self)) (D.told (after_apply result)) (OpensOnly (open_pairs (D.words (armed_dev self)))) }

@@ -1,6 +1,7 @@
-ghost use Rattle.std.specs.Prelude.{◌≡◌, ◌<◌, ◌≤◌, ◌+◌, ◌*◌, [], ◌∷◌, OnOk, OnErr, length, slice_index};
+ghost use Rattle.std.specs.Prelude.{◌≡◌, ◌<◌, ◌≤◌, ◌+◌, ◌*◌, ◌/◌, [], ◌∷◌, OnOk, OnErr, length, slice_index};
 ghost use Rattle.std.proofs.Props.{props};
 ghost use Rattle.ct_base.specs.Causes.{HasCause};
+ghost use Rattle.ct_base.specs.declared.layout.TheConstants.{LONG_PAIRS, MOST_LONG_PAIRS, MOST_SHORT_PAIRS, ROOT_WORD};
 ghost use Rattle.ct_base.specs.Settled.{HasFewPairs, HasPages, IsShut, HaveTargets, IsTarget, with_pairs};
 ghost use Rattle.ct_pm.specs.Device.{with_steps, EachNow, SameOff, LeavesOnly, MakesOnly, NothingPending};
 ghost use Rattle.ct_pm.specs.declared.step.Step.TheVariants.{Store, Flush, Fence};
@@ -9,6 +10,7 @@ ghost use Rattle.ct_record.specs.Record.{IsTouched, InRecord, SettlesTo, StaysIn
 use crate::gate::open_gate;
 use crate::pair::{drafted_at, end_with, put_next, value_after};
 use crate::{Armed, Broken, Idle};
+use ct_base::{LONG_GATE, LONG_PAIRS, MOST_LONG_PAIRS, MOST_SHORT_PAIRS, ROOT_WORD, SHORT_GATE};
 use ct_pm::{Pm, PmFault};
 
 /// A record that is being written: both gates are closed in every image, while pairs are stored behind the short one, and
@@ -16,16 +18,16 @@ use ct_pm::{Pm, PmFault};
 pub struct Draft<D: Pm> {
     dev: D,
     count: u64,
-    // Where the long pairs end that may have been stored. It is 528 where there are none.
+    // Where the long pairs end that may have been stored. It is `LONG_PAIRS` where there are none.
     end: u64,
     ghost images: { EachNow (D.told dev) (SameOff (IsTouched end) (D.words dev)) } by { Prim.hlevel props },
     ghost shut: { IsShut (D.words dev) },
     ghost pages: { HasPages (D.words dev) },
     ghost targets: { HaveTargets (place_of count) count (D.words dev) },
-    ghost few: { count ≤ 8184 },
-    ghost low: { 528 ≤ end },
-    ghost high: { end ≤ 16896 },
-    ghost short: { end ≡ 528 → count ≤ 3 },
+    ghost few: { count ≤ MOST_LONG_PAIRS },
+    ghost low: { LONG_PAIRS ≤ end },
+    ghost high: { end ≤ ROOT_WORD },
+    ghost short: { end ≡ LONG_PAIRS → count ≤ MOST_SHORT_PAIRS },
 }
 
 impl<D: Pm> Draft<D> {
@@ -43,7 +45,7 @@ impl<D: Pm> Draft<D> {
         Draft {
             dev,
             count: 0,
-            end: 528,
+            end: LONG_PAIRS,
         }
     }
 
@@ -75,7 +77,7 @@ impl<D: Pm> Draft<D> {
     ///
     /// `PmFault` where the device failed. The draft then has the pairs that it had.
     pub fn add(&mut self, word: u64, value: u64) -> Result<(), PmFault>
-        requires room { count_of self.old < 8184 }
+        requires room { count_of self.old < MOST_LONG_PAIRS }
         requires target { IsTarget (words_under self.old) word }
 
         ensures count { OnOk result (count_of self.new ≡ count_of self.old + 1) }
@@ -87,8 +89,8 @@ impl<D: Pm> Draft<D> {
         ensures cause { HasCause (faults_under self.old) (faults_under self.new) result }
 
         // The first three pairs are stored in the line of the short gate, whether the device fails or not.
-        ensures short { IsShort self.old → count_of self.old < 3 → IsShort self.new }
-        ensures in_line { IsShort self.old → count_of self.old < 3 → MakesOnly StaysInLine (told_under self.old) (told_under self.new) }
+        ensures short { IsShort self.old → count_of self.old < MOST_SHORT_PAIRS → IsShort self.new }
+        ensures in_line { IsShort self.old → count_of self.old < MOST_SHORT_PAIRS → MakesOnly StaysInLine (told_under self.old) (told_under self.new) }
     {
         self.end = end_with(self.end, self.count);
         put_next(&mut self.dev, self.count, self.end, word, value)?;
@@ -140,9 +142,9 @@ impl<D: Pm> Draft<D> {
         ensures cause { HasCause (faults_under self) (D.faults (after_arm result)) result }
 
         // Where no fourth pair was begun, one line is armed by three steps, and the long gate stays closed.
-        ensures three { OnOk result (IsShort self → D.told (after_arm result) ≡ with_steps (Fence ∷ Flush 65 ∷ Store 527 (count_of self) ∷ []) (told_under self)) }
+        ensures three { OnOk result (IsShort self → D.told (after_arm result) ≡ with_steps (Fence ∷ Flush (SHORT_GATE / 8) ∷ Store SHORT_GATE (count_of self) ∷ []) (told_under self)) }
         ensures in_line { IsShort self → MakesOnly StaysInLine (told_under self) (D.told (after_arm result)) }
-        ensures closed { OnOk result (IsShort self → slice_index (D.words (after_arm result)) 512 ≡ 0) }
+        ensures closed { OnOk result (IsShort self → slice_index (D.words (after_arm result)) LONG_GATE ≡ 0) }
     {
         let Draft {
             mut dev,

@@ -24,7 +24,7 @@ pub struct Broken<D: Pm> {
 impl<D: Pm> Idle<D> {
     ghost use Rattle.ct_record.specs.Seen.{idle_dev};
 
-    /// A device whose page count, word 2, is from 34 to its pages.
+    /// A device whose page count, word 2, is from `FIRST_PAGE` to its pages.
     pub fn of(dev: D) -> Idle<D>
         requires settled { NothingPending (D.told dev) }
         requires shut { IsShut (D.words dev) }

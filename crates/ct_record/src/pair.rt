@@ -6,6 +6,9 @@ ghost use Rattle.ct_pm.specs.Device.{LeavesOnly, MakesOnly, NothingPending, Quie
 ghost use Rattle.ct_record.specs.Record.{IsTouched, AreApplied, IsPlace, OpensOnly, SettlesTo, SharesLine, StaysInLine, place_of};
 ghost use Rattle.ct_base.specs.Settled.{Named, Gives};
 
+use ct_base::{
+    LONG_GATE, LONG_PAIRS, MOST_LONG_PAIRS, MOST_SHORT_PAIRS, ROOT_WORD, SHORT_GATE, SHORT_PAIRS,
+};
 use ct_pm::{Pm, PmFault};
 
 // The word as it reads once the pairs that stand from `from` on are applied.
@@ -29,23 +32,23 @@ pub fn drafted_at(count: u64) -> u64
     ensures { result ≡ place_of count }
 {
     if count > 3 {
-        return 528;
+        return LONG_PAIRS;
     }
-    520
+    SHORT_PAIRS
 }
 
 // Where the long pairs end that may be stored, once a pair is added to so many.
 pub fn end_with(end: u64, count: u64) -> u64
-    requires room { count < 8184 }
+    requires room { count < MOST_LONG_PAIRS }
     ensures least { end ≤ result }
-    ensures short { count < 3 → result ≡ end }
-    ensures long { 3 ≤ count → 530 + 2 * count ≤ result }
-    ensures high { end ≤ 16896 → result ≤ 16896 }
+    ensures short { count < MOST_SHORT_PAIRS → result ≡ end }
+    ensures long { MOST_SHORT_PAIRS ≤ count → LONG_PAIRS + 2 + 2 * count ≤ result }
+    ensures high { end ≤ ROOT_WORD → result ≤ ROOT_WORD }
 {
     if count < 3 {
         return end;
     }
-    end.max(530 + 2 * count)
+    end.max(LONG_PAIRS + 2 * (count + 1))
 }
 
 // Stores one pair at two words behind the closed gates.
@@ -65,31 +68,34 @@ fn put_pair<D: Pm>(dev: &mut D, at: u64, word: u64, value: u64) -> Result<(), Pm
 // Stores the three short pairs again as long ones.
 fn spill<D: Pm>(dev: &mut D) -> Result<(), PmFault>
     requires pages { HasPages (D.words dev.old) }
-    ensures pairs { OnOk result (pairs_at 528 3 (D.words dev.new) ≡ pairs_at 520 3 (D.words dev.old)) }
-    ensures same { SameOff (IsIn 528 6) (D.words dev.new) (D.words dev.old) }
-    ensures quiet { QuietOff (IsIn 528 6) (D.told dev.old) (D.told dev.new) }
-    ensures made { MakesOnly (λ word value. IsIn 528 6 word) (D.told dev.old) (D.told dev.new) }
+    ensures pairs { OnOk result (pairs_at LONG_PAIRS MOST_SHORT_PAIRS (D.words dev.new) ≡ pairs_at SHORT_PAIRS MOST_SHORT_PAIRS (D.words dev.old)) }
+    ensures same { SameOff (IsIn LONG_PAIRS (2 * MOST_SHORT_PAIRS)) (D.words dev.new) (D.words dev.old) }
+    ensures quiet { QuietOff (IsIn LONG_PAIRS (2 * MOST_SHORT_PAIRS)) (D.told dev.old) (D.told dev.new) }
+    ensures made { MakesOnly (λ word value. IsIn LONG_PAIRS (2 * MOST_SHORT_PAIRS) word) (D.told dev.old) (D.told dev.new) }
     ensures cause { HasCause (D.faults dev.old) (D.faults dev.new) result }
 {
-    for k in 0..3 {
-        let word = dev.load(520 + 2 * k);
-        let value = dev.load(520 + 2 * k + 1);
-        put_pair(dev, 528 + 2 * k, word, value)?;
+    for k in 0..MOST_SHORT_PAIRS {
+        let word = dev.load(SHORT_PAIRS + 2 * k);
+        let value = dev.load(SHORT_PAIRS + 2 * k + 1);
+        put_pair(dev, LONG_PAIRS + 2 * k, word, value)?;
     }
     Ok(())
 }
 
+// The word of the fourth long pair, the first that is not a short one too.
+const FOURTH_PAIR: u64 = LONG_PAIRS + 2 * MOST_SHORT_PAIRS;
+
 // Stores the three short pairs as long ones, and a fourth behind them.
 fn put_fourth<D: Pm>(dev: &mut D, word: u64, value: u64) -> Result<(), PmFault>
     requires pages { HasPages (D.words dev.old) }
-    ensures pairs { OnOk result (pairs_at 528 4 (D.words dev.new) ≡ record { word = word; value = value } ∷ pairs_at 520 3 (D.words dev.old)) }
-    ensures same { SameOff (IsIn 528 8) (D.words dev.new) (D.words dev.old) }
-    ensures quiet { QuietOff (IsIn 528 8) (D.told dev.old) (D.told dev.new) }
-    ensures made { MakesOnly (λ word value. IsIn 528 8 word) (D.told dev.old) (D.told dev.new) }
+    ensures pairs { OnOk result (pairs_at LONG_PAIRS 4 (D.words dev.new) ≡ record { word = word; value = value } ∷ pairs_at SHORT_PAIRS MOST_SHORT_PAIRS (D.words dev.old)) }
+    ensures same { SameOff (IsIn LONG_PAIRS 8) (D.words dev.new) (D.words dev.old) }
+    ensures quiet { QuietOff (IsIn LONG_PAIRS 8) (D.told dev.old) (D.told dev.new) }
+    ensures made { MakesOnly (λ word value. IsIn LONG_PAIRS 8 word) (D.told dev.old) (D.told dev.new) }
     ensures cause { HasCause (D.faults dev.old) (D.faults dev.new) result }
 {
     spill(dev)?;
-    put_pair(dev, 534, word, value)
+    put_pair(dev, FOURTH_PAIR, word, value)
 }
 
 // Stores one pair more: the first three in the line of the short gate, the fourth with these three as long pairs.
@@ -100,10 +106,10 @@ pub fn put_next<D: Pm>(
     word: u64,
     value: u64,
 ) -> Result<(), PmFault>
-    requires room { count < 8184 }
+    requires room { count < MOST_LONG_PAIRS }
     requires pages { HasPages (D.words dev.old) }
-    requires low { 528 ≤ end }
-    requires long { 3 ≤ count → 530 + 2 * count ≤ end }
+    requires low { LONG_PAIRS ≤ end }
+    requires long { MOST_SHORT_PAIRS ≤ count → LONG_PAIRS + 2 + 2 * count ≤ end }
 
     ensures added { OnOk result (pairs_at (place_of (count + 1)) (count + 1) (D.words dev.new) ≡ record { word = word; value = value } ∷ pairs_at (place_of count) count (D.words dev.old)) }
     ensures kept { pairs_at (place_of count) count (D.words dev.new) ≡ pairs_at (place_of count) count (D.words dev.old) }
@@ -113,12 +119,12 @@ pub fn put_next<D: Pm>(
     ensures cause { HasCause (D.faults dev.old) (D.faults dev.new) result }
 {
     if count < 3 {
-        return put_pair(dev, 520 + 2 * count, word, value);
+        return put_pair(dev, SHORT_PAIRS + 2 * count, word, value);
     }
     if count == 3 {
         return put_fourth(dev, word, value);
     }
-    put_pair(dev, 528 + 2 * count, word, value)
+    put_pair(dev, LONG_PAIRS + 2 * count, word, value)
 }
 
 // Stores the value of the pair that stands at two words.
@@ -139,7 +145,7 @@ fn store_pair<D: Pm>(dev: &mut D, at: u64) -> Result<(), PmFault>
 
 // Stores the values of the pairs, in order.
 fn store_pairs<D: Pm>(dev: &mut D, from: u64, count: u64) -> Result<(), PmFault>
-    requires inside { from + 2 * count ≤ 16896 }
+    requires inside { from + 2 * count ≤ ROOT_WORD }
     requires pages { HasPages (D.words dev.old) }
     requires targets { HaveTargets from count (D.words dev.old) }
 
@@ -205,7 +211,7 @@ fn flush_pairs<D: Pm>(dev: &mut D, from: u64, count: u64) -> Result<(), PmFault>
 
 // Applies the pairs in order, and flushes their lines.
 fn apply_pairs<D: Pm>(dev: &mut D, from: u64, count: u64) -> Result<(), PmFault>
-    requires inside { from + 2 * count ≤ 16896 }
+    requires inside { from + 2 * count ≤ ROOT_WORD }
     requires pages { HasPages (D.words dev.old) }
     requires targets { HaveTargets from count (D.words dev.old) }
 
@@ -232,13 +238,16 @@ fn open_place<D: Pm>(dev: &D) -> Place
     requires record { IsRecord (D.words dev.now) }
     ensures { IsPlace result.from result.count (D.words dev.now) }
 {
-    let count = dev.load(512);
+    let count = dev.load(LONG_GATE);
     if count > 0 {
-        return Place { from: 528, count };
+        return Place {
+            from: LONG_PAIRS,
+            count,
+        };
     }
     Place {
-        from: 520,
-        count: dev.load(527),
+        from: SHORT_PAIRS,
+        count: dev.load(SHORT_GATE),
     }
 }
 
@@ -252,8 +261,8 @@ pub fn apply_record<D: Pm>(dev: &mut D) -> Result<(), PmFault>
     ensures settled { OnOk result (NothingPending (D.told dev.new)) }
     ensures any_moment { LeavesOnly (D.told dev.old) (D.told dev.new) (SettlesTo (D.words dev.old)) }
     ensures reads { SettlesTo (D.words dev.old) (D.words dev.new) }
-    ensures lawful { LeavesOnly (D.told dev.old) (D.told dev.new) (HasFewPairs (slice_index (D.words dev.old) 512)) }
-    ensures reads_lawful { HasFewPairs (slice_index (D.words dev.old) 512) (D.words dev.new) }
+    ensures lawful { LeavesOnly (D.told dev.old) (D.told dev.new) (HasFewPairs (slice_index (D.words dev.old) LONG_GATE)) }
+    ensures reads_lawful { HasFewPairs (slice_index (D.words dev.old) LONG_GATE) (D.words dev.new) }
     ensures opens { LeavesOnly (D.told dev.old) (D.told dev.new) (OpensOnly (open_pairs (D.words dev.old))) }
     ensures reads_opens { OpensOnly (open_pairs (D.words dev.old)) (D.words dev.new) }
     ensures made { MakesOnly (Gives (open_pairs (D.words dev.old))) (D.told dev.old) (D.told dev.new) }

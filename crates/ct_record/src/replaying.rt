@@ -7,6 +7,7 @@ ghost use Rattle.ct_base.specs.Settled.{Gives};
 ghost use Rattle.ct_record.specs.Seen.{after_finish};
 
 use crate::{Armed, Broken, Idle};
+use ct_base::{LONG_GATE, ROOT_WORD, SHORT_GATE};
 use ct_pm::Pm;
 
 /// Applies the open record, where there is one, and closes its gate.
@@ -23,8 +24,8 @@ pub fn replay<D: Pm>(dev: D) -> Result<Idle<D>, Broken<D>>
     ensures shut { OnOk result (IsShut (D.words (after_finish result))) }
     ensures settled { OnOk result (NothingPending (D.told (after_finish result))) }
 
-    // Pages 33 and later are what the words at entry settle to, root slots 2 to 9 aside.
-    ensures as_settled { OnOk result ((word : ℕ) → 16896 ≤ word → (IsStaging word → ⊥) →
+    // From the root table on the words are what those at entry settle to, the root slots for staging aside.
+    ensures as_settled { OnOk result ((word : ℕ) → ROOT_WORD ≤ word → (IsStaging word → ⊥) →
         slice_index (D.words (after_finish result)) word ≡ slice_index (settled (D.words dev)) word) }
 
     // A crash at any moment leaves what settles as the words at entry do, and so do the words as they read.
@@ -33,8 +34,8 @@ pub fn replay<D: Pm>(dev: D) -> Result<Idle<D>, Broken<D>>
 
     // The record is lawful in it, with no more pairs than the long gate counts at entry, and so it is in the words as they
     // read.
-    ensures lawful { LeavesOnly (D.told dev) (D.told (after_finish result)) (HasFewPairs (slice_index (D.words dev) 512)) }
-    ensures reads_lawful { HasFewPairs (slice_index (D.words dev) 512) (D.words (after_finish result)) }
+    ensures lawful { LeavesOnly (D.told dev) (D.told (after_finish result)) (HasFewPairs (slice_index (D.words dev) LONG_GATE)) }
+    ensures reads_lawful { HasFewPairs (slice_index (D.words dev) LONG_GATE) (D.words (after_finish result)) }
 
     // No other pairs are ever open.
     ensures opens { LeavesOnly (D.told dev) (D.told (after_finish result)) (OpensOnly (open_pairs (D.words dev))) }
@@ -45,7 +46,7 @@ pub fn replay<D: Pm>(dev: D) -> Result<Idle<D>, Broken<D>>
     ensures part { OnErr result ((k : ℕ) × SameOff InRecord (D.words (after_finish result)) (with_pairs (drop k (open_pairs (D.words dev))) (D.words dev))) }
     ensures cause { HasCause (D.faults dev) (D.faults (after_finish result)) result }
 {
-    if dev.load(512) == 0 && dev.load(527) == 0 {
+    if dev.load(LONG_GATE) == 0 && dev.load(SHORT_GATE) == 0 {
         return Ok(Idle::of(dev));
     }
     match Armed::of(dev).apply() {

@@ -1,5 +1,6 @@
 -- The pairs that exchange two ranges of virtual pages.
 use Rattle.std.specs.Prelude.{◌≡◌, ◌≢◌, ℕ, ◌+◌, ◌*◌, ◌<◌, ◌≤◌, List, [], ◌∷◌, ◌++◌}
+use Rattle.ct_base.specs.declared.layout.TheConstants.{PAGE_WORDS, TABLE_ENTRIES}
 use Rattle.ct_base.specs.Exchange.{entry_at}
 use Rattle.ct_base.specs.Settled.{Pair, Named}
 use Rattle.ct_base.specs.Walk.{word, page_at}
@@ -10,9 +11,9 @@ pub record IsEntry (img : List ℕ) (w : ℕ) : Type 0 where
   pub number : ℕ
   pub index : ℕ
   pub few : depth ≤ 3
-  pub small : index < 512
+  pub small : index < TABLE_ENTRIES
   pub there : page_at img depth number ≢ 0
-  pub is : w ≡ page_at img depth number * 512 + index
+  pub is : w ≡ page_at img depth number * PAGE_WORDS + index
 
 -- no pair names such a word
 abbrev pub LeaveTables : List ℕ → List Pair → Type 0

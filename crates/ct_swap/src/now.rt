@@ -11,6 +11,7 @@ ghost use Rattle.ct_record.specs.Seen.{device_behind};
 ghost use Rattle.ct_swap.specs.Swap.{swap_pairs};
 
 use crate::swap::pswap;
+use ct_base::{MOST_LONG_PAIRS, TABLE_ENTRIES};
 use ct_pm::Pm;
 use ct_record::{Broken, Draft, Idle, conclude};
 
@@ -25,12 +26,12 @@ pub fn pswap_now<D: Pm>(dev: D, a: u64, b: u64, n: u64) -> Result<D, Broken<D>>
     requires shut { IsShut (D.words dev) }
     requires pages { HasPages (D.words dev) }
     requires some { 1 ≤ n }
-    requires first { a + n ≤ 2 ^ 36 }
-    requires second { b + n ≤ 2 ^ 36 }
+    requires first { a + n ≤ TABLE_ENTRIES ^ 4 }
+    requires second { b + n ≤ TABLE_ENTRIES ^ 4 }
     requires apart { Apart a b n }
     requires tables { AreTables (D.words dev) }
     requires there { All (HasTables (D.words dev) a b) (pieces a b n) }
-    requires room { 2 * length (pieces a b n) ≤ 8184 }
+    requires room { 2 * length (pieces a b n) ≤ MOST_LONG_PAIRS }
 
     ensures exchanged { OnOk result (Exchanged (D.words dev) (D.words (device_behind result)) a b n) }
     ensures words { OnOk result (SameOff InRecord (D.words (device_behind result)) (with_pairs (swap_pairs (D.words dev) a b (pieces a b n)) (D.words dev))) }

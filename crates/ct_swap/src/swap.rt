@@ -7,6 +7,7 @@ ghost use Rattle.ct_base.specs.Walk.{page_at, AreTables};
 ghost use Rattle.ct_record.specs.Seen.{Drafts, count_of, drafted, faults_under, pairs_of, words_under};
 ghost use Rattle.ct_swap.specs.Swap.{AreDistinct, LeaveTables, first_pair, second_pair, swap_pairs};
 
+use ct_base::{MOST_LONG_PAIRS, PAGE_WORDS, TABLE_ENTRIES};
 use ct_pieces::Pieces;
 use ct_pm::{Pm, PmFault};
 use ct_record::Draft;
@@ -16,13 +17,13 @@ use ct_walk::table_at;
 fn entry_word<D: Pm>(dev: &D, p: u64, height: u32) -> u64
     requires tables { AreTables (D.words dev.now) }
     requires height { height ≤ 3 }
-    requires low { p < 2 ^ 36 }
-    requires there { page_at (D.words dev.now) (3 - height) (p / 512 ^ (height + 1)) ≢ 0 }
+    requires low { p < TABLE_ENTRIES ^ 4 }
+    requires there { page_at (D.words dev.now) (3 - height) (p / TABLE_ENTRIES ^ (height + 1)) ≢ 0 }
     ensures { result ≡ entry_at (D.words dev.now) p height }
 {
-    let index = p / 512u64.pow(height) % 512;
+    let index = p / TABLE_ENTRIES.pow(height) % TABLE_ENTRIES;
     match table_at(dev, p, 3 - height) {
-        Some(table) => table * 512 + index,
+        Some(table) => table * PAGE_WORDS + index,
         None => unreachable!(),
     }
 }
@@ -31,11 +32,11 @@ fn entry_word<D: Pm>(dev: &D, p: u64, height: u32) -> u64
 fn swap_piece<D: Pm>(draft: &mut Draft<D>, p: u64, q: u64, height: u32) -> Result<(), PmFault>
     requires tables { AreTables (words_under draft.old) }
     requires height { height ≤ 3 }
-    requires first { p < 2 ^ 36 }
-    requires second { q < 2 ^ 36 }
-    requires first_there { page_at (words_under draft.old) (3 - height) (p / 512 ^ (height + 1)) ≢ 0 }
-    requires second_there { page_at (words_under draft.old) (3 - height) (q / 512 ^ (height + 1)) ≢ 0 }
-    requires room { count_of draft.old + 2 ≤ 8184 }
+    requires first { p < TABLE_ENTRIES ^ 4 }
+    requires second { q < TABLE_ENTRIES ^ 4 }
+    requires first_there { page_at (words_under draft.old) (3 - height) (p / TABLE_ENTRIES ^ (height + 1)) ≢ 0 }
+    requires second_there { page_at (words_under draft.old) (3 - height) (q / TABLE_ENTRIES ^ (height + 1)) ≢ 0 }
+    requires room { count_of draft.old + 2 ≤ MOST_LONG_PAIRS }
     ensures added { OnOk result (pairs_of draft.new ≡ second_pair (words_under draft.old) p q height ∷ first_pair (words_under draft.old) p q height ∷ pairs_of draft.old) }
     ensures count { OnOk result (count_of draft.new ≡ count_of draft.old + 2) }
     ensures drafts { Drafts draft.old draft.new }
@@ -58,13 +59,13 @@ fn swap_piece<D: Pm>(draft: &mut Draft<D>, p: u64, q: u64, height: u32) -> Resul
 ///
 /// `PmFault` where the device failed.
 pub fn pswap<D: Pm>(draft: &mut Draft<D>, a: u64, b: u64, n: u64) -> Result<(), PmFault>
-    requires first { a + n ≤ 2 ^ 36 }
-    requires second { b + n ≤ 2 ^ 36 }
+    requires first { a + n ≤ TABLE_ENTRIES ^ 4 }
+    requires second { b + n ≤ TABLE_ENTRIES ^ 4 }
     requires apart { Apart a b n }
     requires tables { AreTables (words_under draft.old) }
     requires there { All (HasTables (words_under draft.old) a b) (pieces a b n) }
     requires free { LeaveTables (words_under draft.old) (pairs_of draft.old) }
-    requires room { count_of draft.old + 2 * length (pieces a b n) ≤ 8184 }
+    requires room { count_of draft.old + 2 * length (pieces a b n) ≤ MOST_LONG_PAIRS }
 
     ensures exchanged { OnOk result (Exchanged (drafted draft.old) (drafted draft.new) a b n) }
     ensures pairs { OnOk result (pairs_of draft.new ≡ swap_pairs (words_under draft.old) a b (pieces a b n) ++ pairs_of draft.old) }

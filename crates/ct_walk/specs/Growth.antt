@@ -1,5 +1,6 @@
 -- What an image has after pages of wants were made, and what the work that makes them does.
 use Rattle.std.specs.Prelude.{◌≡◌, ◌≢◌, ℕ, suc, ◌+◌, ◌*◌, ◌/◌, ◌^◌, ◌-◌, ◌<◌, ◌≤◌, ◌⊎◌, true, false, List, length, Contains, Option}
+use Rattle.ct_base.specs.declared.layout.TheConstants.{ADDRESS_END, PAGE_WORDS, ROOT_WORD, TABLE_ENTRIES}
 use Rattle.ct_base.specs.Walk.{word, page_at, byte, AreTables}
 use Rattle.ct_base.specs.Wants.{Want, is_wanted, missing}
 use Rattle.ct_frames.specs.Free.{FreePages}
@@ -18,10 +19,10 @@ pub record IsGap (img : List ℕ) (wants : List Want) (w : ℕ) : Type 0 where
   pub number : ℕ
   pub index : ℕ
   pub few : depth ≤ 3
-  pub small : index < 512
+  pub small : index < TABLE_ENTRIES
   pub there : page_at img depth number ≢ 0
-  pub wanted : is_wanted wants (suc depth) (number * 512 + index) ≡ true
-  pub is : w ≡ page_at img depth number * 512 + index
+  pub wanted : is_wanted wants (suc depth) (number * TABLE_ENTRIES + index) ≡ true
+  pub is : w ≡ page_at img depth number * PAGE_WORDS + index
   pub none : word img w ≡ 0
 
 -- The tables of new are those of old with more pages, for wanted cells alone and out of those that were taken: each byte
@@ -31,15 +32,15 @@ pub record Grown (old new : List ℕ) (wants : List Want) (before after : FreePa
   pub walks : (d x : ℕ) → d ≤ 4 → page_at old d x ≢ 0 → page_at new d x ≡ page_at old d x
   pub cells : (d x : ℕ) → d ≤ 4 → is_wanted wants d x ≡ false → page_at new d x ≡ page_at old d x
   pub fresh : (d x : ℕ) → d ≤ 4 → page_at old d x ≡ 0 → page_at new d x ≢ 0 → IsTaken before after (page_at new d x)
-  pub bytes : (v : ℕ) → v < 2 ^ 48 → byte new v ≡ byte old v
+  pub bytes : (v : ℕ) → v < ADDRESS_END → byte new v ≡ byte old v
   -- the superblock and the redo record stay
-  pub low : (w : ℕ) → w < 33 * 512 → word new w ≡ word old w
-  pub rest : (w : ℕ) → (IsTaken before after (w / 512) → ⊥) → (IsGap old wants w → ⊥) → word new w ≡ word old w
+  pub low : (w : ℕ) → w < ROOT_WORD → word new w ≡ word old w
+  pub rest : (w : ℕ) → (IsTaken before after (w / PAGE_WORDS) → ⊥) → (IsGap old wants w → ⊥) → word new w ≡ word old w
   pub size : length new ≡ length old
 
 -- the word lies on a page that was taken, or is such an entry
 abbrev pub MayGrow : List ℕ → List Want → FreePages → FreePages → ℕ → Type 0
-MayGrow img wants before after w = IsTaken before after (w / 512) ⊎ IsGap img wants w
+MayGrow img wants before after w = IsTaken before after (w / PAGE_WORDS) ⊎ IsGap img wants w
 
 -- Work that makes pages of wants, whether it is done or broke off. It stores in those places alone; the words as they
 -- read, and each image that a crash on the way may leave, have grown from the words at entry.
@@ -57,4 +58,4 @@ pub record IsDone (wants : List Want) (old new : List ℕ) (told now : Option Hi
 
 -- the cells on the way to virtual page n, from depth 1 to end, are wanted
 abbrev pub Covers : List Want → ℕ → ℕ → Type 0
-Covers wants n end = (d : ℕ) → 1 ≤ d → d ≤ end → is_wanted wants d (n / 512 ^ (4 - d)) ≡ true
+Covers wants n end = (d : ℕ) → 1 ≤ d → d ≤ end → is_wanted wants d (n / TABLE_ENTRIES ^ (4 - d)) ≡ true

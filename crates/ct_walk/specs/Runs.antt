@@ -1,5 +1,6 @@
 -- Runs of cells.
 use Rattle.std.specs.Prelude.{◌≡◌, ℕ, ◌^◌, ◌<◌, ◌≤◌, ◌==◌, true, false, List}
+use Rattle.ct_base.specs.declared.layout.TheConstants.{TABLE_ENTRIES}
 use Rattle.ct_base.specs.Walk.{page_at}
 use Rattle.ct_base.specs.Wants.{Want, is_wanted, count_below}
 use Rattle.ct_walk.specs.declared.wants.Run.{Run}
@@ -8,8 +9,8 @@ use Rattle.ct_walk.specs.declared.wants.Run.{Run}
 pub record IsNearest (wants : List Want) (d from : ℕ) (run : Run) : Type 0 where
   pub low : from ≤ run.first
   pub order : run.first ≤ run.past
-  pub high : run.past ≤ 512 ^ d
-  pub ends : run.first ≡ run.past → run.first ≡ 512 ^ d
+  pub high : run.past ≤ TABLE_ENTRIES ^ d
+  pub ends : run.first ≡ run.past → run.first ≡ TABLE_ENTRIES ^ d
   pub before : (x : ℕ) → from ≤ x → x < run.first → is_wanted wants d x ≡ false
   pub inside : (x : ℕ) → run.first ≤ x → x < run.past → is_wanted wants d x ≡ true
 

@@ -6,8 +6,9 @@ ghost use Rattle.ct_walk.specs.Has.{Has};
 ghost use Rattle.ct_walk.specs.Looks.{Finds};
 ghost use Rattle.ct_walk.specs.Runs.{absent_below};
 
-use crate::steps::{ROOT, entry_of};
+use crate::steps::entry_of;
 use crate::wants::{Want, next_run};
+use ct_base::{ROOT_PAGE, TABLE_ENTRIES};
 use ct_pm::Pm;
 
 /// What the way to a cell meets.
@@ -22,15 +23,15 @@ enum Look {
 fn look_at<D: Pm>(dev: &D, depth: u32, x: u64) -> Look
     requires tables { AreTables (D.words dev.now) }
     requires deep { depth ≤ 4 }
-    requires low { x < 512 ^ depth }
+    requires low { x < TABLE_ENTRIES ^ depth }
     ensures { Finds (D.words dev.now) depth x result }
 {
     if depth == 0 {
-        return Look::Present(ROOT);
+        return Look::Present(ROOT_PAGE);
     }
-    match look_at(dev, depth - 1, x / 512) {
-        Look::Absent(cells) => Look::Absent(cells * 512 - x % 512),
-        Look::Present(table) => match entry_of(dev, table, x % 512) {
+    match look_at(dev, depth - 1, x / TABLE_ENTRIES) {
+        Look::Absent(cells) => Look::Absent(cells * TABLE_ENTRIES - x % TABLE_ENTRIES),
+        Look::Present(table) => match entry_of(dev, table, x % TABLE_ENTRIES) {
             Some(page) => Look::Present(page),
             None => Look::Absent(1),
         },
@@ -42,7 +43,7 @@ pub fn absent_from<D: Pm>(dev: &D, depth: u32, x: u64, to: u64) -> u64
     requires tables { AreTables (D.words dev.now) }
     requires deep { depth ≤ 4 }
     requires order { x < to }
-    requires within { to ≤ 512 ^ depth }
+    requires within { to ≤ TABLE_ENTRIES ^ depth }
     ensures present { result ≡ 0 → page_at (D.words dev.now) depth x ≢ 0 }
     ensures absent { (y : ℕ) → x ≤ y → y < x + result → page_at (D.words dev.now) depth y ≡ 0 }
     ensures most { x + result ≤ to }
@@ -58,7 +59,7 @@ fn absent_between<D: Pm>(dev: &D, depth: u32, from: u64, to: u64) -> u64
     requires tables { AreTables (D.words dev.now) }
     requires deep { depth ≤ 4 }
     requires order { from ≤ to }
-    requires within { to ≤ 512 ^ depth }
+    requires within { to ≤ TABLE_ENTRIES ^ depth }
     ensures count { result + absent_below (D.words dev.now) depth from ≡ absent_below (D.words dev.now) depth to }
     ensures most { result + from ≤ to }
 {
@@ -77,7 +78,7 @@ fn missing_at<D: Pm>(dev: &D, wants: &[Want], depth: u32) -> u64
     requires tables { AreTables (D.words dev.now) }
     requires deep { depth ≤ 4 }
     ensures exact { result ≡ missing_at_of (D.words dev.now) wants.now depth }
-    ensures most { result ≤ 512 ^ depth }
+    ensures most { result ≤ TABLE_ENTRIES ^ depth }
 {
     let mut total = 0;
     let mut run = next_run(wants, depth, 0);

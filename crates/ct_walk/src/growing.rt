@@ -11,9 +11,12 @@ ghost use Rattle.ct_walk.specs.Pages.{on_way};
 
 use crate::steps::table_at;
 use crate::wants::Want;
-use ct_base::{Page, Vaddr};
+use ct_base::{PAGE_BYTES, PAGE_WORDS, TABLE_ENTRIES, Vaddr};
 use ct_frames::Frames;
 use ct_pm::{Pm, PmFault, flush_lines};
+
+// The lines of a page, each of eight words.
+const PAGE_LINES: u64 = PAGE_WORDS / 8;
 
 // Sets n words from `first` on to 0.
 fn zero_words<D: Pm>(dev: &mut D, first: u64, n: u64) -> Result<(), PmFault>
@@ -32,16 +35,16 @@ fn zero_words<D: Pm>(dev: &mut D, first: u64, n: u64) -> Result<(), PmFault>
 
 // Fills a page with zeros, and waits until they last.
 fn clear_page<D: Pm>(dev: &mut D, page: u64) -> Result<(), PmFault>
-    requires { page * 512 + 512 ≤ length (D.words dev.old) }
-    ensures zeros { OnOk result ((k : ℕ) → k < 512 → slice_index (D.words dev.new) (page * 512 + k) ≡ 0) }
-    ensures same { SameOff (IsIn (page * 512) 512) (D.words dev.new) (D.words dev.old) }
-    ensures images { NothingPending (D.told dev.old) → LeavesOnly (D.told dev.old) (D.told dev.new) (λ image. SameOff (IsIn (page * 512) 512) image (D.words dev.old)) }
+    requires { page * PAGE_WORDS + PAGE_WORDS ≤ length (D.words dev.old) }
+    ensures zeros { OnOk result ((k : ℕ) → k < PAGE_WORDS → slice_index (D.words dev.new) (page * PAGE_WORDS + k) ≡ 0) }
+    ensures same { SameOff (IsIn (page * PAGE_WORDS) PAGE_WORDS) (D.words dev.new) (D.words dev.old) }
+    ensures images { NothingPending (D.told dev.old) → LeavesOnly (D.told dev.old) (D.told dev.new) (λ image. SameOff (IsIn (page * PAGE_WORDS) PAGE_WORDS) image (D.words dev.old)) }
     ensures settled { OnOk result (NothingPending (D.told dev.old) → NothingPending (D.told dev.new)) }
-    ensures made { MakesOnly (λ at put. IsIn (page * 512) 512 at) (D.told dev.old) (D.told dev.new) }
+    ensures made { MakesOnly (λ at put. IsIn (page * PAGE_WORDS) PAGE_WORDS at) (D.told dev.old) (D.told dev.new) }
     ensures cause { HasCause (D.faults dev.old) (D.faults dev.new) result }
 {
-    zero_words(dev, page * 512, 512)?;
-    flush_lines(dev, page * 64, page * 64 + 64)?;
+    zero_words(dev, page * PAGE_WORDS, PAGE_WORDS)?;
+    flush_lines(dev, page * PAGE_LINES, page * PAGE_LINES + PAGE_LINES)?;
     dev.fence()
 }
 
@@ -65,13 +68,13 @@ pub fn put_entry<D: Pm>(dev: &mut D, word: u64, value: u64) -> Result<(), PmFaul
 // The word of the entry that names the page after one more index step on the way to virtual page `n`.
 fn entry_word<D: Pm>(dev: &D, n: u64, depth: u32) -> u64
     requires tables { AreTables (D.words dev.now) }
-    requires low { n < 2 ^ 36 }
+    requires low { n < TABLE_ENTRIES ^ 4 }
     requires deep { depth ≤ 3 }
     requires table { on_way (D.words dev.now) n depth ≢ 0 }
-    ensures { result ≡ on_way (D.words dev.now) n depth * 512 + n / 512 ^ (3 - depth) % 512 }
+    ensures { result ≡ on_way (D.words dev.now) n depth * PAGE_WORDS + n / TABLE_ENTRIES ^ (3 - depth) % TABLE_ENTRIES }
 {
     match table_at(dev, n, depth) {
-        Some(table) => table * 512 + n / 512u64.pow(3 - depth) % 512,
+        Some(table) => table * PAGE_WORDS + n / TABLE_ENTRIES.pow(3 - depth) % TABLE_ENTRIES,
         None => unreachable!(),
     }
 }
@@ -80,14 +83,14 @@ fn entry_word<D: Pm>(dev: &D, n: u64, depth: u32) -> u64
 fn ensure_level<D: Pm>(dev: &mut D, frames: &mut Frames, n: u64, depth: u32) -> Result<(), PmFault>
     requires tables { AreTables (D.words dev.old) }
     requires agrees { Agrees (D.words dev.old) frames.old }
-    requires low { n < 2 ^ 36 }
+    requires low { n < TABLE_ENTRIES ^ 4 }
     requires deep { depth ≤ 3 }
     requires table { on_way (D.words dev.old) n depth ≢ 0 }
     requires room { on_way (D.words dev.old) n (depth + 1) ≡ 0 → 0 < length frames.old.free }
     ensures there { OnOk result (on_way (D.words dev.new) n (depth + 1) ≢ 0) }
-    ensures extends { (wants : List Wanted) → is_wanted wants (depth + 1) (n / 512 ^ (3 - depth)) ≡ true →
+    ensures extends { (wants : List Wanted) → is_wanted wants (depth + 1) (n / TABLE_ENTRIES ^ (3 - depth)) ≡ true →
         Extends wants (D.words dev.old) (D.words dev.new) (D.told dev.old) (D.told dev.new) frames.old frames.new }
-    ensures done { OnOk result ((wants : List Wanted) → is_wanted wants (depth + 1) (n / 512 ^ (3 - depth)) ≡ true →
+    ensures done { OnOk result ((wants : List Wanted) → is_wanted wants (depth + 1) (n / TABLE_ENTRIES ^ (3 - depth)) ≡ true →
         IsDone wants (D.words dev.old) (D.words dev.new) (D.told dev.old) (D.told dev.new) frames.old frames.new) }
     ensures cause { HasCause (D.faults dev.old) (D.faults dev.new) result }
 {
@@ -100,7 +103,7 @@ fn ensure_level<D: Pm>(dev: &mut D, frames: &mut Frames, n: u64, depth: u32) -> 
         None => unreachable!(),
     };
     clear_page(dev, page)?;
-    put_entry(dev, word, page * 4096 + 1)
+    put_entry(dev, word, page * PAGE_BYTES + 1)
 }
 
 // Makes what a want of a height at one address misses.
@@ -114,14 +117,14 @@ pub fn ensure_at<D: Pm>(
     requires agrees { Agrees (D.words dev.old) frames.old }
     requires height { height ≤ 4 }
     requires room { missing (D.words dev.old) (at_one height v) ≤ length frames.old.free }
-    ensures there { OnOk result (on_way (D.words dev.new) (v / 4096) (4 - height) ≢ 0) }
-    ensures extends { (wants : List Wanted) → Covers wants (v / 4096) (4 - height) →
+    ensures there { OnOk result (on_way (D.words dev.new) (v / PAGE_BYTES) (4 - height) ≢ 0) }
+    ensures extends { (wants : List Wanted) → Covers wants (v / PAGE_BYTES) (4 - height) →
         Extends wants (D.words dev.old) (D.words dev.new) (D.told dev.old) (D.told dev.new) frames.old frames.new }
-    ensures done { OnOk result ((wants : List Wanted) → Covers wants (v / 4096) (4 - height) →
+    ensures done { OnOk result ((wants : List Wanted) → Covers wants (v / PAGE_BYTES) (4 - height) →
         IsDone wants (D.words dev.old) (D.words dev.new) (D.told dev.old) (D.told dev.new) frames.old frames.new) }
     ensures cause { HasCause (D.faults dev.old) (D.faults dev.new) result }
 {
-    let n = v.get() / 4096;
+    let n = v.get() / PAGE_BYTES;
     for depth in 0..4 - height {
         ensure_level(dev, frames, n, depth)?;
     }

@@ -1,5 +1,5 @@
 // A root slot is emptied, and the pages that it reached are free again.
-ghost use Rattle.std.specs.Prelude.{◌≡◌, ◌≢◌, ℕ, ◌+◌, ◌*◌, ◌/◌, ◌^◌, ◌<◌, ◌≤◌, ◌↔◌, ◌⊎◌, length, Contains, slice_index, slice_set, OnOk, OnErr};
+ghost use Rattle.std.specs.Prelude.{◌≡◌, ◌≢◌, ℕ, ◌+◌, ◌-◌, ◌*◌, ◌/◌, ◌^◌, ◌<◌, ◌≤◌, ◌↔◌, ◌⊎◌, length, Contains, slice_index, slice_set, OnOk, OnErr};
 ghost use Rattle.ct_base.specs.Causes.{HasCause};
 ghost use Rattle.ct_base.specs.View.{view};
 ghost use Rattle.ct_base.specs.Walk.{page_at, page_count, IsUnder, IsSubtree, AreTables};
@@ -9,16 +9,15 @@ ghost use Rattle.ct_pm.specs.Device.{EachNow, LeavesOnly, MakesOnly, NothingPend
 ghost use Rattle.ct_walk.specs.Staging.{Unstaged};
 
 use crate::growing::put_entry;
-use ct_base::Page;
+use ct_base::{
+    FIRST_PAGE, PAGE_BYTES, PAGE_WORDS, Page, ROOT_WORD, STAGING_SLOT, STAGING_SLOTS, TABLE_ENTRIES,
+};
 use ct_frames::Frames;
 use ct_pm::{Pm, PmFault};
 
-/// The word of root slot 0.
-const ROOT_SLOTS: u64 = 16896;
-
 // Gives one page back.
 fn give_page(frames: &mut Frames, page: u64)
-    requires low { 34 ≤ page }
+    requires low { FIRST_PAGE ≤ page }
     requires high { page < frames.old.pages }
     requires used { ¬ Contains frames.old.free page }
     ensures { frames.new ≡ record frames.old { free = inserted page frames.old.free } }
@@ -41,16 +40,17 @@ fn give_below<D: Pm>(dev: &D, frames: &mut Frames, page: u64, levels: u32)
         give_page(frames, page);
         return;
     }
-    for i in 0..512 {
-        let entry = dev.load(page * 512 + i);
+    for i in 0..TABLE_ENTRIES {
+        let entry = dev.load(page * PAGE_WORDS + i);
         if entry != 0 {
-            give_below(dev, frames, entry / 4096, levels - 1);
+            give_below(dev, frames, entry / PAGE_BYTES, levels - 1);
         }
     }
     give_page(frames, page);
 }
 
-/// Sets root slot `slot`, one of 2 to 9, to 0, and once that lasts gives the pages that it reached back to `frames`.
+/// Sets root slot `slot`, one of those for staging, to 0, and once that lasts gives the pages that it reached back to
+/// `frames`.
 ///
 /// A crash at any moment leaves the words as they were, with the slot set to 0 or without.
 ///
@@ -60,30 +60,30 @@ fn give_below<D: Pm>(dev: &D, frames: &mut Frames, page: u64, levels: u32)
 pub fn unstage<D: Pm>(dev: &mut D, frames: &mut Frames, slot: u64) -> Result<(), PmFault>
     requires tables { AreTables (D.words dev.old) }
     requires agrees { Agrees (D.words dev.old) frames.old }
-    requires from { 2 ≤ slot }
-    requires to { slot ≤ 9 }
+    requires from { STAGING_SLOT ≤ slot }
+    requires to { slot ≤ STAGING_SLOT + STAGING_SLOTS - 1 }
 
-    ensures words { OnOk result (D.words dev.new ≡ slice_set (D.words dev.old) (16896 + slot) 0) }
+    ensures words { OnOk result (D.words dev.new ≡ slice_set (D.words dev.old) (ROOT_WORD + slot) 0) }
     ensures unstaged { OnOk result (Unstaged (D.words dev.old) (D.words dev.new) slot) }
     ensures agrees { OnOk result (Agrees (D.words dev.new) frames.new) }
     ensures given { OnOk result ((q : ℕ) → Contains frames.new.free q ↔ (Contains frames.old.free q ⊎ IsUnder (D.words dev.old) (page_at (D.words dev.old) 1 slot) 3 q)) }
     ensures more { length frames.old.free ≤ length frames.new.free }
-    ensures slot { OnOk result (EachNow (D.told dev.new) (λ image. slice_index image (16896 + slot) ≡ 0)) }
+    ensures slot { OnOk result (EachNow (D.told dev.new) (λ image. slice_index image (ROOT_WORD + slot) ≡ 0)) }
     ensures settled { OnOk result (NothingPending (D.told dev.old) → NothingPending (D.told dev.new)) }
 
-    ensures either { (D.words dev.new ≡ D.words dev.old) ⊎ (D.words dev.new ≡ slice_set (D.words dev.old) (16896 + slot) 0) }
+    ensures either { (D.words dev.new ≡ D.words dev.old) ⊎ (D.words dev.new ≡ slice_set (D.words dev.old) (ROOT_WORD + slot) 0) }
     ensures images { NothingPending (D.told dev.old) → LeavesOnly (D.told dev.old) (D.told dev.new)
-        (λ image. (image ≡ D.words dev.old) ⊎ (image ≡ slice_set (D.words dev.old) (16896 + slot) 0)) }
-    ensures made { MakesOnly (λ at put. (at ≡ 16896 + slot) × (put ≡ 0)) (D.told dev.old) (D.told dev.new) }
+        (λ image. (image ≡ D.words dev.old) ⊎ (image ≡ slice_set (D.words dev.old) (ROOT_WORD + slot) 0)) }
+    ensures made { MakesOnly (λ at put. (at ≡ ROOT_WORD + slot) × (put ≡ 0)) (D.told dev.old) (D.told dev.new) }
     ensures view { (v : ℕ) → view (D.words dev.new) v ≡ view (D.words dev.old) v }
 
     ensures frames_err { OnErr result (frames.new ≡ frames.old) }
     ensures cause { HasCause (D.faults dev.old) (D.faults dev.new) result }
 {
-    let entry = dev.load(ROOT_SLOTS + slot);
-    put_entry(dev, ROOT_SLOTS + slot, 0)?;
+    let entry = dev.load(ROOT_WORD + slot);
+    put_entry(dev, ROOT_WORD + slot, 0)?;
     if entry != 0 {
-        give_below(dev, frames, entry / 4096, 3);
+        give_below(dev, frames, entry / PAGE_BYTES, 3);
     }
     Ok(())
 }

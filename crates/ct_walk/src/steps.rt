@@ -3,12 +3,15 @@ ghost use Rattle.std.specs.Prelude.{◌≡◌, ◌≢◌, ℕ, ◌+◌, ◌-◌,
 ghost use Rattle.ct_base.specs.Walk.{word_in, next, walk as page_of, byte, AreTables};
 ghost use Rattle.ct_walk.specs.Pages.{some_page, on_way, AreEntries, IsTable, IsSomeTable};
 
-use ct_base::{Page, Vaddr};
+use ct_base::{PAGE_BYTES, PAGE_WORDS, Page, ROOT_PAGE, SLOT_SPAN, TABLE_ENTRIES, Vaddr};
 use ct_pm::Pm;
 use std::marker::Model;
 
-/// The page of the root table.
-pub const ROOT: u64 = 33;
+/// The addresses that a table of level 1 leads to, in bytes.
+const FIRST_SPAN: u64 = PAGE_BYTES * TABLE_ENTRIES;
+
+/// The addresses that a table of level 2 leads to, in bytes.
+const SECOND_SPAN: u64 = FIRST_SPAN * TABLE_ENTRIES;
 
 /// A page that is known to be a table of level `K`: the root is of level 4, and entries of level 1 name pages of data.
 #[derive(Clone, Copy, Debug, Drop)]
@@ -33,19 +36,23 @@ pub fn entry_of<D: Pm>(dev: &D, page: u64, i: u64) -> Option<u64>
     requires entries { AreEntries (D.words dev.now) }
     requires table { IsSomeTable (D.words dev.now) page }
     requires small { page < 2 ^ 52 }
-    requires index { i < 512 }
+    requires index { i < TABLE_ENTRIES }
     ensures exact { result ≡ some_page (next (D.words dev.now) page i) }
     ensures small { IfSome result (λ p. p < 2 ^ 52) }
 {
-    let entry = dev.load(page * 512 + i);
-    if entry == 0 { None } else { Some(entry / 4096) }
+    let entry = dev.load(page * PAGE_WORDS + i);
+    if entry == 0 {
+        None
+    } else {
+        Some(entry / PAGE_BYTES)
+    }
 }
 
 /// The root table.
 pub fn root() -> Table<4>
-    ensures { result ≡ 33 }
+    ensures { result ≡ ROOT_PAGE }
 {
-    Table { page: ROOT }
+    Table { page: ROOT_PAGE }
 }
 
 impl Table<4> {
@@ -54,7 +61,7 @@ impl Table<4> {
     pub fn child<D: Pm>(self, dev: &D, i: u64) -> Option<Table<3>>
         requires entries { AreEntries (D.words dev.now) }
         requires table { IsTable (D.words dev.now) 0 self }
-        requires index { i < 512 }
+        requires index { i < TABLE_ENTRIES }
         ensures exact { result ≡ some_page (next (D.words dev.now) self i) }
         ensures table { IfSome result (λ t. IsTable (D.words dev.now) 1 t) }
     {
@@ -69,7 +76,7 @@ impl Table<3> {
     pub fn child<D: Pm>(self, dev: &D, i: u64) -> Option<Table<2>>
         requires entries { AreEntries (D.words dev.now) }
         requires table { IsTable (D.words dev.now) 1 self }
-        requires index { i < 512 }
+        requires index { i < TABLE_ENTRIES }
         ensures exact { result ≡ some_page (next (D.words dev.now) self i) }
         ensures table { IfSome result (λ t. IsTable (D.words dev.now) 2 t) }
     {
@@ -83,7 +90,7 @@ impl Table<2> {
     pub fn child<D: Pm>(self, dev: &D, i: u64) -> Option<Table<1>>
         requires entries { AreEntries (D.words dev.now) }
         requires table { IsTable (D.words dev.now) 2 self }
-        requires index { i < 512 }
+        requires index { i < TABLE_ENTRIES }
         ensures exact { result ≡ some_page (next (D.words dev.now) self i) }
         ensures table { IfSome result (λ t. IsTable (D.words dev.now) 3 t) }
     {
@@ -97,7 +104,7 @@ impl Table<1> {
     pub fn page<D: Pm>(self, dev: &D, i: u64) -> Option<Page>
         requires entries { AreEntries (D.words dev.now) }
         requires table { IsTable (D.words dev.now) 3 self }
-        requires index { i < 512 }
+        requires index { i < TABLE_ENTRIES }
         ensures exact { result ≡ some_page (next (D.words dev.now) self i) }
         ensures page { IfSome result (λ p. IsTable (D.words dev.now) 4 p) }
         ensures small { IfSome result (λ p. p < 2 ^ 52) }
@@ -115,20 +122,20 @@ pub fn walk<D: Pm>(dev: &D, v: Vaddr) -> Option<Page>
     ensures small { IfSome result (λ p. p < 2 ^ 52) }
 {
     let address = v.get();
-    let third = root().child(dev, address / 549_755_813_888 % 512)?;
-    let second = third.child(dev, address / 1_073_741_824 % 512)?;
-    let first = second.child(dev, address / 2_097_152 % 512)?;
-    first.page(dev, address / 4096 % 512)
+    let third = root().child(dev, address / SLOT_SPAN % TABLE_ENTRIES)?;
+    let second = third.child(dev, address / SECOND_SPAN % TABLE_ENTRIES)?;
+    let first = second.child(dev, address / FIRST_SPAN % TABLE_ENTRIES)?;
+    first.page(dev, address / PAGE_BYTES % TABLE_ENTRIES)
 }
 
 /// The word at an address, 0 where there is no page.
 pub fn load_at<D: Pm>(dev: &D, v: Vaddr) -> u64
     requires tables { AreTables (D.words dev.now) }
     requires aligned { v % 8 ≡ 0 }
-    ensures { result ≡ word_in (D.words dev.now) (page_of (D.words dev.now) v) (v % 4096 / 8) }
+    ensures { result ≡ word_in (D.words dev.now) (page_of (D.words dev.now) v) (v % PAGE_BYTES / 8) }
 {
     match walk(dev, v) {
-        Some(page) => dev.load(page.number() * 512 + v.get() % 4096 / 8),
+        Some(page) => dev.load(page.number() * PAGE_WORDS + v.get() % PAGE_BYTES / 8),
         None => 0,
     }
 }
@@ -140,8 +147,8 @@ pub fn byte_at<D: Pm>(dev: &D, v: Vaddr) -> u8
 {
     match walk(dev, v) {
         Some(page) => {
-            let offset = v.get() % 4096;
-            let word = dev.load(page.number() * 512 + offset / 8);
+            let offset = v.get() % PAGE_BYTES;
+            let word = dev.load(page.number() * PAGE_WORDS + offset / 8);
             (word / 256u64.pow((offset % 8) as u32) % 256) as u8
         }
         None => 0,
@@ -153,13 +160,13 @@ pub fn byte_at<D: Pm>(dev: &D, v: Vaddr) -> u8
 pub fn table_at<D: Pm>(dev: &D, p: u64, depth: u32) -> Option<u64>
     requires tables { AreTables (D.words dev.now) }
     requires deep { depth ≤ 3 }
-    requires low { p < 2 ^ 36 }
+    requires low { p < TABLE_ENTRIES ^ 4 }
     ensures exact { result ≡ some_page (on_way (D.words dev.now) p depth) }
     ensures small { IfSome result (λ t. t < 2 ^ 52) }
 {
     if depth == 0 {
-        return Some(ROOT);
+        return Some(ROOT_PAGE);
     }
     let table = table_at(dev, p, depth - 1)?;
-    entry_of(dev, table, p / 512u64.pow(4 - depth) % 512)
+    entry_of(dev, table, p / TABLE_ENTRIES.pow(4 - depth) % TABLE_ENTRIES)
 }

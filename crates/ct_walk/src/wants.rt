@@ -4,16 +4,13 @@ ghost use Rattle.ct_base.specs.Wants.{Want as Wanted, is_on_path};
 ghost use Rattle.ct_walk.specs.Has.{IsInRange};
 ghost use Rattle.ct_walk.specs.Runs.{IsNearest};
 
-use ct_base::Vaddr;
+use ct_base::{ADDRESS_END, PAGE_BYTES, TABLE_ENTRIES, Vaddr};
 use std::marker::Model;
-
-/// How many bytes a page has.
-const PAGE: u64 = 4096;
 
 /// That the page, or the table of a level, of each address from `at` to `at + len - 1` is there.
 ///
 /// Height 0 asks for the page of each address, heights 1 to 3 for the table of that level on its way, and height 4 for the
-/// root, which is always there. The range has at least one address, and its addresses are below 2^48.
+/// root, which is always there. The range has at least one address, and its addresses are below `ADDRESS_END`.
 #[derive(Clone, Copy, Debug, Drop)]
 pub struct Want {
     pub height: u32,
@@ -44,11 +41,11 @@ pub struct Run {
 /// How many bytes the range of a cell of a depth has.
 pub fn span(depth: u32) -> u64
     requires { depth ≤ 4 }
-    ensures exact { result ≡ 4096 * 512 ^ (4 - depth) }
+    ensures exact { result ≡ PAGE_BYTES * TABLE_ENTRIES ^ (4 - depth) }
     ensures some { 0 < result }
-    ensures most { result ≤ 2 ^ 48 }
+    ensures most { result ≤ ADDRESS_END }
 {
-    PAGE * 512u64.pow(4 - depth)
+    PAGE_BYTES * TABLE_ENTRIES.pow(4 - depth)
 }
 
 impl Want {
@@ -65,7 +62,7 @@ impl Want {
         requires { is_on_path (4 - self.now.height) x self.now ≡ true }
         ensures low { self.now.at ≤ result }
         ensures high { result < self.now.at + self.now.len }
-        ensures cell { result / (4096 * 512 ^ self.now.height) ≡ x }
+        ensures cell { result / (PAGE_BYTES * TABLE_ENTRIES ^ self.now.height) ≡ x }
     {
         let bytes = span(4 - self.height);
         match Vaddr::new(self.at.get().max(x * bytes)) {
@@ -78,7 +75,7 @@ impl Want {
     pub fn cells(&self, depth: u32) -> Run
         requires { depth ≤ 4 }
         ensures exact { (x : ℕ) → is_on_path depth x self.now ≡ true ↔ ((result.first ≤ x) × (x < result.past)) }
-        ensures within { result.past ≤ 512 ^ depth }
+        ensures within { result.past ≤ TABLE_ENTRIES ^ depth }
         ensures order { result.first ≤ result.past }
         ensures some { 0 < result.past → result.first < result.past }
     {
@@ -99,10 +96,10 @@ impl Want {
 /// and stands at the end.
 pub fn next_run(wants: &[Want], depth: u32, from: u64) -> Run
     requires deep { depth ≤ 4 }
-    requires within { from ≤ 512 ^ depth }
+    requires within { from ≤ TABLE_ENTRIES ^ depth }
     ensures { IsNearest wants.now depth from result }
 {
-    let end = 512u64.pow(depth);
+    let end = TABLE_ENTRIES.pow(depth);
     let mut run = Run {
         first: end,
         past: end,

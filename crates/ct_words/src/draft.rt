@@ -1,5 +1,5 @@
 // Words by address, read and changed through a draft.
-ghost use Rattle.std.specs.Prelude.{◌≡◌, ◌≢◌, ℕ, ◌+◌, ◌/◌, ◌%◌, ◌^◌, ◌<◌, ◌≤◌, ◌∷◌, OnOk, OnErr};
+ghost use Rattle.std.specs.Prelude.{◌≡◌, ◌≢◌, ℕ, ◌+◌, ◌/◌, ◌%◌, ◌<◌, ◌≤◌, ◌∷◌, OnOk, OnErr};
 ghost use Rattle.ct_base.specs.Causes.{HasCause};
 ghost use Rattle.ct_base.specs.Walk.{page_at};
 ghost use Rattle.ct_base.specs.Words.{place_at, word_at};
@@ -7,14 +7,15 @@ ghost use Rattle.ct_record.specs.Seen.{Drafts, count_of, drafted, faults_under, 
 ghost use Rattle.ct_words.specs.Drafted.{KeepsCells, MapsAlike};
 
 use crate::load::place_of;
+use ct_base::{ADDRESS_END, MOST_LONG_PAIRS, PAGE_BYTES, SLOT_SPAN};
 use ct_pm::{Pm, PmFault};
 use ct_record::Draft;
 
 /// The word at an address after the pairs so far.
 pub fn value_at<D: Pm>(draft: &Draft<D>, address: u64) -> u64
-    requires maps { MapsAlike (address / 2 ^ 39) (words_under draft.now) (drafted draft.now) }
-    requires high { address < 2 ^ 48 }
-    requires there { page_at (words_under draft.now) 4 (address / 4096) ≢ 0 }
+    requires maps { MapsAlike (address / SLOT_SPAN) (words_under draft.now) (drafted draft.now) }
+    requires high { address < ADDRESS_END }
+    requires there { page_at (words_under draft.now) 4 (address / PAGE_BYTES) ≢ 0 }
     ensures { result ≡ word_at (drafted draft.now) address }
 {
     draft.value(place_of(draft.dev(), address))
@@ -22,10 +23,10 @@ pub fn value_at<D: Pm>(draft: &Draft<D>, address: u64) -> u64
 
 /// Drafts the word at an address.
 pub fn store_at<D: Pm>(draft: &mut Draft<D>, address: u64, value: u64) -> Result<(), PmFault>
-    requires maps { MapsAlike (address / 2 ^ 39) (words_under draft.old) (drafted draft.old) }
-    requires high { address < 2 ^ 48 }
-    requires there { page_at (words_under draft.old) 4 (address / 4096) ≢ 0 }
-    requires room { count_of draft.old < 8184 }
+    requires maps { MapsAlike (address / SLOT_SPAN) (words_under draft.old) (drafted draft.old) }
+    requires high { address < ADDRESS_END }
+    requires there { page_at (words_under draft.old) 4 (address / PAGE_BYTES) ≢ 0 }
+    requires room { count_of draft.old < MOST_LONG_PAIRS }
 
     ensures added { OnOk result (pairs_of draft.new
         ≡ record { word = place_at (words_under draft.old) address; value = value } ∷ pairs_of draft.old) }
@@ -34,7 +35,7 @@ pub fn store_at<D: Pm>(draft: &mut Draft<D>, address: u64, value: u64) -> Result
     ensures count_err { OnErr result (count_of draft.new ≡ count_of draft.old) }
 
     ensures written { OnOk result (word_at (drafted draft.new) address ≡ value) }
-    ensures others { OnOk result ((a : ℕ) → (a / 4096 ≡ address / 4096 → a % 4096 / 8 ≢ address % 4096 / 8)
+    ensures others { OnOk result ((a : ℕ) → (a / PAGE_BYTES ≡ address / PAGE_BYTES → a % PAGE_BYTES / 8 ≢ address % PAGE_BYTES / 8)
         → word_at (drafted draft.new) a ≡ word_at (drafted draft.old) a) }
     ensures cells { OnOk result (KeepsCells (drafted draft.old) (drafted draft.new)) }
     ensures maps { OnOk result ((slot : ℕ) → MapsAlike slot (words_under draft.old) (drafted draft.old)

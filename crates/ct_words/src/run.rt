@@ -1,5 +1,5 @@
 // Words that follow each other in a page, changed through a draft.
-ghost use Rattle.std.specs.Prelude.{◌≡◌, ◌≢◌, ℕ, ◌+◌, ◌*◌, ◌/◌, ◌%◌, ◌^◌, ◌<◌, ◌≤◌, ◌++◌, length, OnOk};
+ghost use Rattle.std.specs.Prelude.{◌≡◌, ◌≢◌, ℕ, ◌+◌, ◌*◌, ◌/◌, ◌%◌, ◌<◌, ◌≤◌, ◌++◌, length, OnOk};
 ghost use Rattle.ct_base.specs.Causes.{HasCause};
 ghost use Rattle.ct_base.specs.Walk.{page_at, page_count, AreTables};
 ghost use Rattle.ct_base.specs.Words.{Rewrites, pairs_to, place_at};
@@ -7,14 +7,15 @@ ghost use Rattle.ct_record.specs.Seen.{Drafts, count_of, drafted, faults_under, 
 ghost use Rattle.ct_words.specs.Drafted.{MapsAlike};
 
 use crate::load::place_of;
+use ct_base::{ADDRESS_END, MOST_LONG_PAIRS, PAGE_BYTES, PAGE_WORDS, ROOT_WORD, SLOT_SPAN};
 use ct_pm::{Pm, PmFault};
 use ct_record::Draft;
 
 // Drafts the values for the device words from a place on.
 fn add_words<D: Pm>(draft: &mut Draft<D>, place: u64, values: &[u64]) -> Result<(), PmFault>
-    requires low { 16896 ≤ place }
-    requires high { place + length values.now ≤ 512 * page_count (words_under draft.old) }
-    requires room { count_of draft.old + length values.now ≤ 8184 }
+    requires low { ROOT_WORD ≤ place }
+    requires high { place + length values.now ≤ PAGE_WORDS * page_count (words_under draft.old) }
+    requires room { count_of draft.old + length values.now ≤ MOST_LONG_PAIRS }
     ensures added { OnOk result (pairs_of draft.new ≡ pairs_to place values.now (length values.now) ++ pairs_of draft.old) }
     ensures count { OnOk result (count_of draft.new ≡ count_of draft.old + length values.now) }
     ensures drafts { Drafts draft.old draft.new }
@@ -35,20 +36,20 @@ fn add_words<D: Pm>(draft: &mut Draft<D>, place: u64, values: &[u64]) -> Result<
 /// `PmFault` where the device failed.
 pub fn put_words<D: Pm>(draft: &mut Draft<D>, address: u64, values: &[u64]) -> Result<(), PmFault>
     requires tables { AreTables (words_under draft.old) }
-    requires high { address < 2 ^ 48 }
+    requires high { address < ADDRESS_END }
     requires aligned { address % 8 ≡ 0 }
-    requires inside { address % 4096 + 8 * length values.now ≤ 4096 }
-    requires there { page_at (words_under draft.old) 4 (address / 4096) ≢ 0 }
-    requires room { count_of draft.old + length values.now ≤ 8184 }
+    requires inside { address % PAGE_BYTES + 8 * length values.now ≤ PAGE_BYTES }
+    requires there { page_at (words_under draft.old) 4 (address / PAGE_BYTES) ≢ 0 }
+    requires room { count_of draft.old + length values.now ≤ MOST_LONG_PAIRS }
 
     ensures added { OnOk result (pairs_of draft.new
         ≡ pairs_to (place_at (words_under draft.old) address) values.now (length values.now) ++ pairs_of draft.old) }
     ensures count { OnOk result (count_of draft.new ≡ count_of draft.old + length values.now) }
 
     // Where the pairs so far left the tables and the pages of the root slot, the words become the values, and all others stay.
-    ensures rewrites { OnOk result (MapsAlike (address / 2 ^ 39) (words_under draft.old) (drafted draft.old)
+    ensures rewrites { OnOk result (MapsAlike (address / SLOT_SPAN) (words_under draft.old) (drafted draft.old)
         → Rewrites (drafted draft.old) (drafted draft.new) address values.now) }
-    ensures maps { OnOk result (MapsAlike (address / 2 ^ 39) (words_under draft.old) (drafted draft.old)
+    ensures maps { OnOk result (MapsAlike (address / SLOT_SPAN) (words_under draft.old) (drafted draft.old)
         → (slot : ℕ) → MapsAlike slot (words_under draft.old) (drafted draft.old)
         → MapsAlike slot (words_under draft.new) (drafted draft.new)) }
 

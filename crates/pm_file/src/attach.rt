@@ -1,15 +1,11 @@
 ghost use Rattle.std.specs.Prelude.{◌≡◌, ◌*◌, ◌≤◌, ℕ, length, IfOk, OnOk};
 
 use byteorder::{ByteOrder, LittleEndian};
+use ct_base::{MOST_PAGES, PAGE_BYTES, PAGE_WORDS};
 use std::fs::OpenFile;
 use std::io;
 use std::os::unix::fs::FileExt;
 use thiserror::Error;
-
-/// The most pages that a device has.
-const MOST_PAGES: u64 = 262_144;
-
-const PAGE_BYTES: u64 = 4096;
 
 /// How many words are read at once: 1 MiB.
 pub const PIECE: usize = 131_072;
@@ -25,7 +21,7 @@ pub enum AttachFault {
 
 /// How many whole pages the file has, or 0 where these are too many.
 pub fn whole_pages<F: OpenFile>(file: &F) -> io::Result<u64>
-    ensures { IfOk result (λ pages. pages ≤ 262144) }
+    ensures { IfOk result (λ pages. pages ≤ MOST_PAGES) }
 {
     let pages = file.metadata()?.len() / PAGE_BYTES;
     Ok(if pages > MOST_PAGES { 0 } else { pages })
@@ -34,7 +30,7 @@ pub fn whole_pages<F: OpenFile>(file: &F) -> io::Result<u64>
 /// Reads the words from the front of the file, by pieces of the buffer.
 pub fn read_words<F: FileExt>(file: &F, buffer: &mut [u8], words: &mut [u64]) -> io::Result<()>
     requires room { length buffer.old ≡ 8 * 131072 }
-    requires few { length words.old ≤ 134217728 }
+    requires few { length words.old ≤ MOST_PAGES * PAGE_WORDS }
 {
     let mut done = 0;
     'pieces: while done < words.len() {

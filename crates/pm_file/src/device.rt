@@ -1,11 +1,13 @@
 ghost use Rattle.std.proofs.Common.{arith};
 ghost use Rattle.std.specs.Prelude.{◌≡◌, ◌≢◌, ◌≤◌, ◌*◌, ◌/◌, ◌%◌, ◌<◌, ◌+◌, ◌-◌, ◌^◌, ℕ, Ok, None, true, length, IfOk, OnOk, OnErr, IsBitSet, IsTrue, ◌↔◌, bit_and, slice_index, slice_set};
+ghost use Rattle.ct_base.specs.declared.layout.TheConstants.{MOST_PAGES, PAGE_WORDS};
 ghost use Rattle.ct_base.specs.Causes.{HasCause};
 ghost use Rattle.pm_file.specs.Lines.{with_line};
 
 use crate::attach::{AttachFault, PIECE, read_words, whole_pages};
 use crate::marks::Marks;
 use crate::writer::{Writer, zeros};
+use ct_base::{MOST_PAGES, PAGE_WORDS};
 use ct_pm::{Pm, PmFault};
 use std::alloc::Global;
 use std::fs::{Files, OpenFile, OpenOptions};
@@ -28,9 +30,9 @@ pub struct FilePm<F> {
     writer: Writer,
     unsynced: bool,
     faults: u64,
-    ghost whole_pages: { length words.items ≡ 512 * pages },
+    ghost whole_pages: { length words.items ≡ PAGE_WORDS * pages },
     ghost words_fit: { (word : ℕ) → slice_index words.items word < 2 ^ 64 },
-    ghost few: { pages ≤ 262144 },
+    ghost few: { pages ≤ MOST_PAGES },
     ghost marks_size: { length marks.marked.items ≡ pages },
 }
 
@@ -48,7 +50,7 @@ impl<F: FileExt + OpenFile + Drop> FilePm<F> {
         alloc: Global,
         name: &str,
     ) -> Result<FilePm<F>, AttachFault>
-        ensures pages { IfOk result (λ device. pages_of device ≤ 262144) }
+        ensures pages { IfOk result (λ device. pages_of device ≤ MOST_PAGES) }
         ensures fresh { IfOk result (λ device. IsFresh device) }
     {
         match OpenOptions::new().read(true).write(true).open(rt, name) {
@@ -59,7 +61,7 @@ impl<F: FileExt + OpenFile + Drop> FilePm<F> {
 
     // The device over an open file.
     fn over(alloc: Global, file: F) -> Result<FilePm<F>, AttachFault>
-        ensures pages { IfOk result (λ device. pages_of device ≤ 262144) }
+        ensures pages { IfOk result (λ device. pages_of device ≤ MOST_PAGES) }
         ensures fresh { IfOk result (λ device. IsFresh device) }
     {
         let Ok(pages) = whole_pages(&file) else {
@@ -86,8 +88,8 @@ impl<F: FileExt + OpenFile + Drop> FilePm<F> {
 
     // The device over the words that were read.
     fn of_parts(file: F, words: Vec<u64>, pages: u64, marks: Marks, writer: Writer) -> FilePm<F>
-        requires words { length words.items ≡ 512 * pages }
-        requires few { pages ≤ 262144 }
+        requires words { length words.items ≡ PAGE_WORDS * pages }
+        requires few { pages ≤ MOST_PAGES }
         requires marks { length marks.marked.items ≡ pages }
         ensures pages { pages_of result ≡ pages }
         ensures stored { stored_of result ≡ marks.stored.items }
@@ -109,10 +111,10 @@ impl<F: FileExt + OpenFile + Drop> FilePm<F> {
 
 // The words of so many pages from the front of the file.
 fn words_of_file<F: FileExt>(alloc: Global, file: &F, pages: u64) -> Result<Vec<u64>, AttachFault>
-    requires { pages ≤ 262144 }
-    ensures { IfOk result (λ words. length words.items ≡ 512 * pages) }
+    requires { pages ≤ MOST_PAGES }
+    ensures { IfOk result (λ words. length words.items ≡ PAGE_WORDS * pages) }
 {
-    let Ok(mut words) = vec![in alloc; 0; 512 * pages as usize] else {
+    let Ok(mut words) = vec![in alloc; 0; (PAGE_WORDS * pages) as usize] else {
         return Err(AttachFault::NoMemory);
     };
     let Ok(mut buffer) = zeros(alloc, 8 * PIECE) else {
@@ -132,8 +134,8 @@ fn add_page<F: FileExt>(
     mask: u64,
     writer: &mut Writer,
 ) -> io::Result<()>
-    requires few { page < 262144 }
-    requires there { 512 * page + 512 ≤ length words.now }
+    requires few { page < MOST_PAGES }
+    requires there { PAGE_WORDS * page + PAGE_WORDS ≤ length words.now }
 {
     for line in 0..64 {
         if mask & (1 << line) != 0 {
@@ -152,8 +154,8 @@ fn write_back<F: FileExt + OpenFile>(
     marks: &Marks,
     writer: &mut Writer,
 ) -> io::Result<()>
-    requires size { length words.now ≡ 512 * length marks.now.marked.items }
-    requires few { length marks.now.marked.items ≤ 262144 }
+    requires size { length words.now ≡ PAGE_WORDS * length marks.now.marked.items }
+    requires few { length marks.now.marked.items ≤ MOST_PAGES }
 {
     for page in &marks.pages {
         add_page(file, words, *page, marks.marked[*page as usize], writer)?;

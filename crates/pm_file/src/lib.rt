@@ -14,6 +14,3 @@ mod writer;
 
 pub use attach::AttachFault;
 pub use device::FilePm;
-
-#[cfg(test)]
-mod tests;

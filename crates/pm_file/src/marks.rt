@@ -2,7 +2,7 @@ ghost use Rattle.std.specs.Prelude.{◌≡◌, ◌≢◌, ℕ, ◌+◌, ◌-◌,
 ghost use Rattle.pm_file.specs.Lines.{with_line, page_total, IsCleared, IsKept};
 
 use crate::lines::{add_line, has_line};
-use ct_base::NoMemory;
+use ct_base::{MOST_PAGES, NoMemory};
 use std::alloc::Global;
 
 /// The lines that were stored to since they were last written, and those of them that are marked: the next fence writes
@@ -23,7 +23,7 @@ pub struct Marks {
 impl Marks {
     /// No line of so many pages.
     pub fn new(alloc: Global, pages: u64) -> Result<Marks, NoMemory>
-        requires { pages ≤ 262144 }
+        requires { pages ≤ MOST_PAGES }
         ensures stored { IfOk result (λ marks. marks.stored.items ≡ replicate pages 0) }
         ensures marked { IfOk result (λ marks. marks.marked.items ≡ replicate pages 0) }
         ensures none { IfOk result (λ marks. marks.pages.items ≡ []) }

@@ -1,7 +1,8 @@
 ghost use Rattle.std.specs.Prelude.{◌≡◌, ◌*◌, ◌+◌, ◌<◌, ◌≤◌, length, IfOk};
+ghost use Rattle.ct_base.specs.declared.layout.TheConstants.{MOST_PAGES};
 
 use byteorder::{ByteOrder, LittleEndian};
-use ct_base::NoMemory;
+use ct_base::{MOST_PAGES, NoMemory};
 use std::alloc::Global;
 use std::io;
 use std::os::unix::fs::FileExt;
@@ -19,7 +20,7 @@ pub struct Writer {
     first: u64,
     ghost size: { length bytes.items ≡ 65536 },
     ghost fits: { lines ≤ 1024 },
-    ghost few: { first ≤ 16777216 },
+    ghost few: { first ≤ MOST_PAGES * 64 },
 }
 
 impl Writer {
@@ -38,7 +39,7 @@ impl Writer {
     /// Gathers a line, given by its eight words. The lines so far are written first, where it is not their neighbour or
     /// there is no room.
     pub fn add<F: FileExt>(&mut self, file: &F, line: u64, words: &[u64]) -> io::Result<()>
-        requires few { line < 16777216 }
+        requires few { line < MOST_PAGES * 64 }
         requires whole { length words.now ≡ 8 }
     {
         if self.lines == ROOM || self.first + self.lines as u64 != line {

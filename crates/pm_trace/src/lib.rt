@@ -7,4 +7,4 @@
 mod crash;
 pub mod trace;
 
-pub use trace::TracePm;
+pub use trace::{MOST_STEPS, TracePm};

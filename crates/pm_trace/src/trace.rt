@@ -2,12 +2,17 @@ ghost use Rattle.std.proofs.Common.{arith};
 ghost use Rattle.std.specs.Prelude.{List, ◌≡◌, ◌≢◌, ◌≤◌, ◌*◌, ◌+◌, ◌/◌, ◌<◌, ◌^◌, ◌%◌, ◌⊎◌, ◌↔◌, ℕ, Some, [], ◌∷◌, ◌++◌, length, reverse, OnOk, OnErr, IfOk, IsErr, IsTrue, Contains, slice_index, slice_get, vec_capacity};
 ghost use Rattle.ct_pm.specs.Images.{after, words_after};
 ghost use Rattle.ct_base.specs.Causes.{HasCause};
+ghost use Rattle.ct_base.specs.declared.layout.TheConstants.{MOST_PAGES, PAGE_WORDS};
 ghost use Rattle.pm_trace.specs.Trace.{IsWithin};
+ghost use Rattle.pm_trace.specs.declared.trace.TheConstants.{MOST_STEPS};
 
 use crate::crash::chosen_image;
-use ct_base::NoMemory;
+use ct_base::{MOST_PAGES, NoMemory, PAGE_WORDS};
 use ct_pm::{Pm, PmFault, Step};
 use std::alloc::Global;
+
+/// The most steps that a device has room for.
+pub const MOST_STEPS: u64 = 16_777_216;
 
 /// A device of persistent memory that keeps its start words and every step.
 ///
@@ -24,11 +29,11 @@ pub struct TracePm {
     fail_at: Vec<u64>,
     pages: u64,
     ghost replays: { words.items ≡ words_after start.items (reverse steps.items) },
-    ghost whole_pages: { length words.items ≡ 512 * pages },
-    ghost start_whole: { length start.items ≡ 512 * pages },
+    ghost whole_pages: { length words.items ≡ PAGE_WORDS * pages },
+    ghost start_whole: { length start.items ≡ PAGE_WORDS * pages },
     ghost words_fit: { (word : ℕ) → slice_index words.items word < 2 ^ 64 },
-    ghost few: { pages ≤ 262144 },
-    ghost small_room: { room ≤ 16777216 },
+    ghost few: { pages ≤ MOST_PAGES },
+    ghost small_room: { room ≤ MOST_STEPS },
     ghost within: { length steps.items ≤ room },
     ghost reserved: { room ≤ vec_capacity steps },
 }
@@ -50,9 +55,9 @@ impl TracePm {
         room: u64,
         fail_at: Vec<u64>,
     ) -> Result<TracePm, NoMemory>
-        requires whole { length words.items % 512 ≡ 0 }
-        requires few { length words.items ≤ 134217728 }
-        requires room { room ≤ 16777216 }
+        requires whole { length words.items % PAGE_WORDS ≡ 0 }
+        requires few { length words.items ≤ MOST_PAGES * PAGE_WORDS }
+        requires room { room ≤ MOST_STEPS }
         ensures told { IfOk result (λ device. history device ≡ record { start = words.items; steps = [] }) }
         ensures words { IfOk result (λ device. words_of device ≡ words.items) }
         ensures settled { IfOk result (λ device. IsSettled (history device)) }
@@ -64,7 +69,7 @@ impl TracePm {
         let Ok(steps) = Vec::with_capacity(alloc, room as usize) else {
             return Err(NoMemory);
         };
-        let pages = words.len() as u64 / 512;
+        let pages = words.len() as u64 / PAGE_WORDS;
         Ok(TracePm {
             start,
             words,

@@ -1,5 +1,6 @@
 -- What the checks answer.
 use Rattle.std.specs.Prelude.{◌≡◌, ℕ, ◌+◌, ◌*◌, ◌<◌, List}
+use Rattle.ct_base.specs.declared.layout.TheConstants.{PAGE_WORDS, ROOT_PAGE, STAGING_SLOT, STAGING_SLOTS}
 use Rattle.ct_base.specs.Rules.{Rule, HoldsAt, FailsFirst, number}
 use Rattle.ct_base.specs.Walk.{word}
 use Rattle.ct_check.specs.Reading.{IsBad}
@@ -21,7 +22,7 @@ Stops img stops.Memory = Unit {0}
 
 -- root slots 2 to 9 are 0
 abbrev pub HasNoStaging : List ℕ → Type 0
-HasNoStaging img = (k : ℕ) → k < 8 → word img (33 * 512 + 2 + k) ≡ 0
+HasNoStaging img = (k : ℕ) → k < STAGING_SLOTS → word img (ROOT_PAGE * PAGE_WORDS + STAGING_SLOT + k) ≡ 0
 
 -- the rules with a lower number hold
 abbrev pub HoldBelow : List ℕ → ℕ → Type 0

@@ -6,6 +6,7 @@ ghost use Rattle.ct_base.specs.Walk.{AreTables, page_count};
 ghost use Rattle.ct_check.specs.Rules.{HoldBelow, Tells};
 
 use crate::fault::CheckFault;
+use ct_base::{LEAST_INODES, MOST_INODES, MOST_PAGES};
 use ct_naming::{are_entries, are_named, are_names_apart, are_reached};
 use ct_placing::{
     are_headers, are_in_order, are_inodes, are_mapped_in_parts, are_placed, are_tails_zero,
@@ -21,7 +22,7 @@ use std::alloc::Global;
 /// `Damage` with the first of them that fails.
 fn check_inodes<D: Pm>(dev: &D) -> Result<(), CheckFault>
     requires tables { AreTables (D.words dev.now) }
-    requires few { inode_count (D.words dev.now) ≤ 1048576 }
+    requires few { inode_count (D.words dev.now) ≤ MOST_INODES }
     requires below { HoldBelow (D.words dev.now) 10 }
     ensures rules { IfOk result (λ _. HoldBelow (D.words dev.now) 12) }
     ensures damage { IfErr result (Tells (D.words dev.now)) }
@@ -42,8 +43,8 @@ fn check_inodes<D: Pm>(dev: &D) -> Result<(), CheckFault>
 /// `Damage` with the first of them that fails, or `Memory`.
 fn check_parts<D: Pm>(alloc: Global, dev: &D) -> Result<(), CheckFault>
     requires tables { AreTables (D.words dev.now) }
-    requires pages { page_count (D.words dev.now) ≤ 262144 }
-    requires few { inode_count (D.words dev.now) ≤ 1048576 }
+    requires pages { page_count (D.words dev.now) ≤ MOST_PAGES }
+    requires few { inode_count (D.words dev.now) ≤ MOST_INODES }
     requires below { HoldBelow (D.words dev.now) 12 }
     ensures rules { IfOk result (λ _. HoldBelow (D.words dev.now) 15) }
     ensures damage { IfErr result (Tells (D.words dev.now)) }
@@ -71,8 +72,8 @@ fn check_parts<D: Pm>(alloc: Global, dev: &D) -> Result<(), CheckFault>
 /// `Damage` with the first of them that fails, or `Memory`.
 pub fn check_placing<D: Pm>(alloc: Global, dev: &D) -> Result<(), CheckFault>
     requires tables { AreTables (D.words dev.now) }
-    requires pages { page_count (D.words dev.now) ≤ 262144 }
-    requires few { inode_count (D.words dev.now) ≤ 1048576 }
+    requires pages { page_count (D.words dev.now) ≤ MOST_PAGES }
+    requires few { inode_count (D.words dev.now) ≤ MOST_INODES }
     requires below { HoldBelow (D.words dev.now) 10 }
     ensures rules { IfOk result (λ _. HoldBelow (D.words dev.now) 15) }
     ensures damage { IfErr result (Tells (D.words dev.now)) }
@@ -91,7 +92,7 @@ pub fn check_placing<D: Pm>(alloc: Global, dev: &D) -> Result<(), CheckFault>
 /// `Damage` where it fails, or `Memory`.
 pub fn check_headers<D: Pm>(alloc: Global, dev: &D) -> Result<(), CheckFault>
     requires tables { AreTables (D.words dev.now) }
-    requires few { inode_count (D.words dev.now) ≤ 1048576 }
+    requires few { inode_count (D.words dev.now) ≤ MOST_INODES }
     requires below { HoldBelow (D.words dev.now) 15 }
     ensures rules { IfOk result (λ _. HoldBelow (D.words dev.now) 16) }
     ensures damage { IfErr result (Tells (D.words dev.now)) }
@@ -113,8 +114,8 @@ pub fn check_headers<D: Pm>(alloc: Global, dev: &D) -> Result<(), CheckFault>
 /// `Damage` with the first of them that fails.
 fn check_slots<D: Pm>(dev: &D) -> Result<(), CheckFault>
     requires tables { AreTables (D.words dev.now) }
-    requires pages { page_count (D.words dev.now) ≤ 262144 }
-    requires few { inode_count (D.words dev.now) ≤ 1048576 }
+    requires pages { page_count (D.words dev.now) ≤ MOST_PAGES }
+    requires few { inode_count (D.words dev.now) ≤ MOST_INODES }
     requires below { HoldBelow (D.words dev.now) 16 }
     ensures rules { IfOk result (λ _. HoldBelow (D.words dev.now) 18) }
     ensures damage { IfErr result (Tells (D.words dev.now)) }
@@ -135,9 +136,9 @@ fn check_slots<D: Pm>(dev: &D) -> Result<(), CheckFault>
 /// `Damage` with the first of them that fails, or `Memory`.
 fn check_names<D: Pm>(alloc: Global, dev: &D) -> Result<(), CheckFault>
     requires tables { AreTables (D.words dev.now) }
-    requires pages { page_count (D.words dev.now) ≤ 262144 }
-    requires least { 2 ≤ inode_count (D.words dev.now) }
-    requires few { inode_count (D.words dev.now) ≤ 1048576 }
+    requires pages { page_count (D.words dev.now) ≤ MOST_PAGES }
+    requires least { LEAST_INODES ≤ inode_count (D.words dev.now) }
+    requires few { inode_count (D.words dev.now) ≤ MOST_INODES }
     requires below { HoldBelow (D.words dev.now) 18 }
     ensures rules { IfOk result (λ _. HoldBelow (D.words dev.now) 21) }
     ensures damage { IfErr result (Tells (D.words dev.now)) }
@@ -173,9 +174,9 @@ fn check_names<D: Pm>(alloc: Global, dev: &D) -> Result<(), CheckFault>
 /// `Damage` with the first of them that fails, or `Memory`.
 pub fn check_files<D: Pm>(alloc: Global, dev: &D) -> Result<(), CheckFault>
     requires tables { AreTables (D.words dev.now) }
-    requires pages { page_count (D.words dev.now) ≤ 262144 }
-    requires least { 2 ≤ inode_count (D.words dev.now) }
-    requires few { inode_count (D.words dev.now) ≤ 1048576 }
+    requires pages { page_count (D.words dev.now) ≤ MOST_PAGES }
+    requires least { LEAST_INODES ≤ inode_count (D.words dev.now) }
+    requires few { inode_count (D.words dev.now) ≤ MOST_INODES }
     requires below { HoldBelow (D.words dev.now) 16 }
     ensures sound { IfOk result (λ _. Sound (D.words dev.now)) }
     ensures damage { IfErr result (Tells (D.words dev.now)) }

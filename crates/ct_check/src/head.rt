@@ -5,6 +5,10 @@ ghost use Rattle.ct_base.specs.Settled.{HaveTargets};
 ghost use Rattle.ct_base.specs.Walk.{word, page_count};
 ghost use Rattle.ct_check.specs.Heads.{HeadTells};
 
+use ct_base::{
+    LEAST_INODES, LEAST_PAGES, LONG_GATE, LONG_PAIRS, MOST_INODES, MOST_LONG_PAIRS, MOST_PAGES,
+    MOST_SHORT_PAIRS, PAGE_WORDS, ROOT_WORD, SHORT_GATE, SHORT_PAIRS,
+};
 use ct_marks::are_zero;
 use ct_pm::Pm;
 
@@ -14,15 +18,15 @@ const MAGIC: u64 = 0x3130_5346_5443_5452;
 // Whether each of so many pairs from a word on names one that it may name.
 fn have_targets<D: Pm>(dev: &D, from: u64, pairs: u64) -> bool
     requires there { from + 2 * pairs ≤ length (D.words dev.now) }
-    requires least { 256 ≤ page_count (D.words dev.now) }
-    requires most { page_count (D.words dev.now) ≤ 262144 }
+    requires least { LEAST_PAGES ≤ page_count (D.words dev.now) }
+    requires most { page_count (D.words dev.now) ≤ MOST_PAGES }
     requires room { 3 ≤ length (D.words dev.now) }
     ensures { IsTrue result ↔ HaveTargets from pairs (D.words dev.now) }
 {
-    let end = 512 * dev.load(2);
+    let end = PAGE_WORDS * dev.load(2);
     for k in 0..pairs {
         let target = dev.load(from + 2 * k);
-        if target < 16896 || target >= end {
+        if target < ROOT_WORD || target >= end {
             return false;
         }
     }
@@ -34,7 +38,7 @@ fn is_sized<D: Pm>(dev: &D) -> bool
     ensures { IsTrue result ↔ HeadHolds (D.words dev.now) size }
 {
     let pages = dev.pages();
-    256 <= pages && pages <= 262_144
+    LEAST_PAGES <= pages && pages <= MOST_PAGES
 }
 
 // Rule 3.
@@ -43,7 +47,7 @@ fn is_counted<D: Pm>(dev: &D) -> bool
     ensures { IsTrue result ↔ HeadHolds (D.words dev.now) count }
 {
     let pages = dev.load(2);
-    256 <= pages && pages <= dev.pages()
+    LEAST_PAGES <= pages && pages <= dev.pages()
 }
 
 // Rule 4.
@@ -52,7 +56,7 @@ fn has_inodes<D: Pm>(dev: &D) -> bool
     ensures { IsTrue result ↔ HeadHolds (D.words dev.now) inodes }
 {
     let numbers = dev.load(3);
-    2 <= numbers && numbers <= 1_048_576
+    LEAST_INODES <= numbers && numbers <= MOST_INODES
 }
 
 // Rule 6.
@@ -60,9 +64,9 @@ fn has_gates<D: Pm>(dev: &D) -> bool
     requires { HeadHolds (D.words dev.now) size }
     ensures { IsTrue result ↔ HeadHolds (D.words dev.now) gates }
 {
-    let long = dev.load(512);
-    let short = dev.load(527);
-    long <= 8184 && short <= 3 && (long == 0 || short == 0)
+    let long = dev.load(LONG_GATE);
+    let short = dev.load(SHORT_GATE);
+    long <= MOST_LONG_PAIRS && short <= MOST_SHORT_PAIRS && (long == 0 || short == 0)
 }
 
 // Rule 7.
@@ -72,7 +76,8 @@ fn are_targets<D: Pm>(dev: &D) -> bool
     requires gates { HeadHolds (D.words dev.now) gates }
     ensures { IsTrue result ↔ HeadHolds (D.words dev.now) targets }
 {
-    have_targets(dev, 528, dev.load(512)) && have_targets(dev, 520, dev.load(527))
+    have_targets(dev, LONG_PAIRS, dev.load(LONG_GATE))
+        && have_targets(dev, SHORT_PAIRS, dev.load(SHORT_GATE))
 }
 
 /// Mount rules 0 to 7, on the device as it is.
@@ -99,7 +104,7 @@ pub fn check_head<D: Pm>(dev: &D) -> Result<(), u32>
     if !has_inodes(dev) {
         return Err(4);
     }
-    if !are_zero(dev, 4, 512) {
+    if !are_zero(dev, 4, PAGE_WORDS) {
         return Err(5);
     }
     if !has_gates(dev) {

@@ -5,33 +5,28 @@ ghost use Rattle.ct_check.specs.Reading.{IsAt, IsLevel, Reads, Walked};
 ghost use Rattle.ct_check.specs.Rules.{Stops};
 
 use crate::fault::Stop;
+use ct_base::{FIRST_PAGE, MOST_PAGES, PAGE_BYTES, PAGE_WORDS, ROOT_PAGE, TABLE_ENTRIES};
 use ct_marks::{Met, has_mark, meet, no_marks};
 use ct_pm::Pm;
 use std::alloc::Global;
 
-/// The first page that an entry may name.
-const FIRST: u64 = 34;
-
-/// The page of the root table.
-pub const ROOT: u64 = 33;
-
 /// The page that entry `i` of a table names, 0 where it is 0; `None` exactly where it is neither.
 fn entry_of<D: Pm>(dev: &D, pages: u64, table: u64, i: u64) -> Option<u64>
     requires pages { pages ≡ page_count (D.words dev.now) }
-    requires fits { 512 * pages ≤ length (D.words dev.now) }
+    requires fits { PAGE_WORDS * pages ≤ length (D.words dev.now) }
     requires table { table ≢ 0 }
     requires low { table < pages }
-    requires index { i < 512 }
-    requires few { pages ≤ 262144 }
-    ensures some { IfSome result (λ p. (p ≡ next (D.words dev.now) table i) × (p ≡ 0 → word (D.words dev.now) (table * 512 + i) ≡ 0)) }
-    ensures none { IfNone result ((next (D.words dev.now) table i ≡ 0) × (word (D.words dev.now) (table * 512 + i) ≢ 0)) }
+    requires index { i < TABLE_ENTRIES }
+    requires few { pages ≤ MOST_PAGES }
+    ensures some { IfSome result (λ p. (p ≡ next (D.words dev.now) table i) × (p ≡ 0 → word (D.words dev.now) (table * PAGE_WORDS + i) ≡ 0)) }
+    ensures none { IfNone result ((next (D.words dev.now) table i ≡ 0) × (word (D.words dev.now) (table * PAGE_WORDS + i) ≢ 0)) }
 {
-    let entry = dev.load(table * 512 + i);
+    let entry = dev.load(table * PAGE_WORDS + i);
     if entry == 0 {
         return Some(0);
     }
-    let page = entry / 4096;
-    if entry % 4096 == 1 && page >= FIRST && page < pages {
+    let page = entry / PAGE_BYTES;
+    if entry % PAGE_BYTES == 1 && page >= FIRST_PAGE && page < pages {
         return Some(page);
     }
     None
@@ -47,18 +42,18 @@ fn read_entry<D: Pm>(
     met: &mut Met,
 ) -> Result<(), Stop>
     requires pages { pages ≡ page_count (D.words dev.now) }
-    requires fits { 512 * pages ≤ length (D.words dev.now) }
-    requires few { pages ≤ 262144 }
-    requires table { 33 ≤ table }
+    requires fits { PAGE_WORDS * pages ≤ length (D.words dev.now) }
+    requires few { pages ≤ MOST_PAGES }
+    requires table { ROOT_PAGE ≤ table }
     requires low { table < pages }
-    requires index { i < 512 }
+    requires index { i < TABLE_ENTRIES }
     requires next { length next.old.items ≡ pages }
     requires met { length met.old.pages.items ≡ pages }
     ensures next { length next.new.items ≡ pages }
     ensures met { length met.new.pages.items ≡ pages }
     ensures reads { OnOk result ((d : ℕ) → IsAt (D.words dev.now) d table
-        → Reads (D.words dev.now) d (table * 512 + i) next.old.items met.old.pages.items met.old.twice
-        → Reads (D.words dev.now) d (table * 512 + i + 1) next.new.items met.new.pages.items met.new.twice) }
+        → Reads (D.words dev.now) d (table * PAGE_WORDS + i) next.old.items met.old.pages.items met.old.twice
+        → Reads (D.words dev.now) d (table * PAGE_WORDS + i + 1) next.new.items met.new.pages.items met.new.twice) }
     ensures stops { IfErr result (λ stop. (d : ℕ) → d ≤ 3 → IsAt (D.words dev.now) d table → Stops (D.words dev.now) stop) }
 {
     match entry_of(dev, pages, table, i) {
@@ -82,20 +77,20 @@ fn read_table<D: Pm>(
     met: &mut Met,
 ) -> Result<(), Stop>
     requires pages { pages ≡ page_count (D.words dev.now) }
-    requires fits { 512 * pages ≤ length (D.words dev.now) }
-    requires few { pages ≤ 262144 }
-    requires table { 33 ≤ table }
+    requires fits { PAGE_WORDS * pages ≤ length (D.words dev.now) }
+    requires few { pages ≤ MOST_PAGES }
+    requires table { ROOT_PAGE ≤ table }
     requires low { table < pages }
     requires next { length next.old.items ≡ pages }
     requires met { length met.old.pages.items ≡ pages }
     ensures next { length next.new.items ≡ pages }
     ensures met { length met.new.pages.items ≡ pages }
     ensures reads { OnOk result ((d : ℕ) → IsAt (D.words dev.now) d table
-        → Reads (D.words dev.now) d (table * 512) next.old.items met.old.pages.items met.old.twice
-        → Reads (D.words dev.now) d (table * 512 + 512) next.new.items met.new.pages.items met.new.twice) }
+        → Reads (D.words dev.now) d (table * PAGE_WORDS) next.old.items met.old.pages.items met.old.twice
+        → Reads (D.words dev.now) d (table * PAGE_WORDS + PAGE_WORDS) next.new.items met.new.pages.items met.new.twice) }
     ensures stops { IfErr result (λ stop. (d : ℕ) → d ≤ 3 → IsAt (D.words dev.now) d table → Stops (D.words dev.now) stop) }
 {
-    for i in 0..512 {
+    for i in 0..TABLE_ENTRIES {
         read_entry(dev, pages, table, i, next, met)?;
     }
     Ok(())
@@ -111,9 +106,9 @@ fn read_marked<D: Pm>(
     met: &mut Met,
 ) -> Result<(), Stop>
     requires pages { pages ≡ page_count (D.words dev.now) }
-    requires fits { 512 * pages ≤ length (D.words dev.now) }
-    requires few { pages ≤ 262144 }
-    requires table { 33 ≤ table }
+    requires fits { PAGE_WORDS * pages ≤ length (D.words dev.now) }
+    requires few { pages ≤ MOST_PAGES }
+    requires table { ROOT_PAGE ≤ table }
     requires low { table < pages }
     requires level { length level.now.items ≡ pages }
     requires next { length next.old.items ≡ pages }
@@ -121,8 +116,8 @@ fn read_marked<D: Pm>(
     ensures next { length next.new.items ≡ pages }
     ensures met { length met.new.pages.items ≡ pages }
     ensures reads { OnOk result ((d : ℕ) → IsLevel (D.words dev.now) d level.now.items
-        → Reads (D.words dev.now) d (table * 512) next.old.items met.old.pages.items met.old.twice
-        → Reads (D.words dev.now) d (table * 512 + 512) next.new.items met.new.pages.items met.new.twice) }
+        → Reads (D.words dev.now) d (table * PAGE_WORDS) next.old.items met.old.pages.items met.old.twice
+        → Reads (D.words dev.now) d (table * PAGE_WORDS + PAGE_WORDS) next.new.items met.new.pages.items met.new.twice) }
     ensures stops { IfErr result (λ stop. (d : ℕ) → d ≤ 3 → IsLevel (D.words dev.now) d level.now.items → Stops (D.words dev.now) stop) }
 {
     if !has_mark(level, table) {
@@ -140,19 +135,19 @@ fn read_tables<D: Pm>(
     met: &mut Met,
 ) -> Result<(), Stop>
     requires pages { pages ≡ page_count (D.words dev.now) }
-    requires fits { 512 * pages ≤ length (D.words dev.now) }
-    requires some { 34 ≤ pages }
-    requires few { pages ≤ 262144 }
+    requires fits { PAGE_WORDS * pages ≤ length (D.words dev.now) }
+    requires some { FIRST_PAGE ≤ pages }
+    requires few { pages ≤ MOST_PAGES }
     requires level { length level.now.items ≡ pages }
     requires next { length next.old.items ≡ pages }
     requires met { length met.old.pages.items ≡ pages }
     ensures met { length met.new.pages.items ≡ pages }
     ensures reads { OnOk result ((d : ℕ) → IsLevel (D.words dev.now) d level.now.items
         → Reads (D.words dev.now) d 0 next.old.items met.old.pages.items met.old.twice
-        → Reads (D.words dev.now) d (512 * pages) next.new.items met.new.pages.items met.new.twice) }
+        → Reads (D.words dev.now) d (PAGE_WORDS * pages) next.new.items met.new.pages.items met.new.twice) }
     ensures stops { IfErr result (λ stop. (d : ℕ) → d ≤ 3 → IsLevel (D.words dev.now) d level.now.items → Stops (D.words dev.now) stop) }
 {
-    for table in ROOT..pages {
+    for table in ROOT_PAGE..pages {
         read_marked(dev, pages, level, table, next, met)?;
     }
     Ok(())
@@ -167,9 +162,9 @@ pub fn next_level<D: Pm>(
     met: &mut Met,
 ) -> Result<Vec<u8>, Stop>
     requires pages { pages ≡ page_count (D.words dev.now) }
-    requires fits { 512 * pages ≤ length (D.words dev.now) }
-    requires some { 34 ≤ pages }
-    requires few { pages ≤ 262144 }
+    requires fits { PAGE_WORDS * pages ≤ length (D.words dev.now) }
+    requires some { FIRST_PAGE ≤ pages }
+    requires few { pages ≤ MOST_PAGES }
     requires level { length level.now.items ≡ pages }
     requires met { length met.old.pages.items ≡ pages }
     ensures met { length met.new.pages.items ≡ pages }

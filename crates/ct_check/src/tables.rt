@@ -9,7 +9,8 @@ ghost use Rattle.ct_frames.specs.Agrees.{Agrees};
 
 use crate::fault::{CheckFault, Stop};
 use crate::frames::unmarked;
-use crate::level::{ROOT, next_level};
+use crate::level::next_level;
+use ct_base::{FIRST_PAGE, MOST_PAGES, PAGE_WORDS, ROOT_PAGE};
 use ct_frames::Frames;
 use ct_marks::{Met, no_marks, set_mark};
 use ct_pm::Pm;
@@ -18,9 +19,9 @@ use std::alloc::Global;
 // Reads the tables of all four levels.
 fn read_levels<D: Pm>(alloc: Global, dev: &D, pages: u64) -> Result<Met, Stop>
     requires pages { pages ≡ page_count (D.words dev.now) }
-    requires fits { 512 * pages ≤ length (D.words dev.now) }
-    requires some { 34 ≤ pages }
-    requires few { pages ≤ 262144 }
+    requires fits { PAGE_WORDS * pages ≤ length (D.words dev.now) }
+    requires some { FIRST_PAGE ≤ pages }
+    requires few { pages ≤ MOST_PAGES }
     ensures walked { IfOk result (λ met. Walked (D.words dev.now) 4 0 met.pages.items met.twice) }
     ensures stops { IfErr result (Stops (D.words dev.now)) }
 {
@@ -35,7 +36,7 @@ fn read_levels<D: Pm>(alloc: Global, dev: &D, pages: u64) -> Result<Met, Stop>
         },
         Err(_) => return Err(Stop::Memory),
     };
-    set_mark(&mut level, ROOT);
+    set_mark(&mut level, ROOT_PAGE);
     for depth in 0..4u32 {
         level = match next_level(alloc, dev, pages, &level, &mut met) {
             Ok(next) => next,

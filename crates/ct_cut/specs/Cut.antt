@@ -1,6 +1,7 @@
 -- What a cut asks of an image, and what an image has after it.
-use Rattle.std.specs.Prelude.{◌≡◌, ◌≢◌, ℕ, zero, suc, ◌+◌, ◌-◌, ◌*◌, ◌/◌, ◌^◌, ◌<◌, ◌≤◌, ◌==◌, if◌then◌else◌, List, length}
+use Rattle.std.specs.Prelude.{◌≡◌, ◌≢◌, ℕ, zero, suc, ◌+◌, ◌-◌, ◌*◌, ◌/◌, ◌<◌, ◌≤◌, ◌==◌, if◌then◌else◌, List, length}
 use Rattle.ct_base.specs.declared.inode.Inode.{Inode}
+use Rattle.ct_base.specs.declared.layout.TheConstants.{FILE_KIND, INODE_BYTES, NO_PARTITION, PAGE_BYTES, PAGE_WORDS, PARTITION_SLOT, SLOT_PAGES, SLOT_SPAN, STAGING_SLOT}
 use Rattle.ct_base.specs.Headers.{HeadersStand}
 use Rattle.ct_base.specs.Inode.{inode, IsIn, IsLive, live_parts, part_bytes}
 use Rattle.ct_base.specs.Plan.{cut_wants, give_up_wants}
@@ -19,7 +20,7 @@ use Rattle.ct_write.specs.Written.{IsEdited}
 pub record CanCut (img : List ℕ) (i len : ℕ) : Type 0 where
   pub ready : IsReady img
   pub live : IsLive (view img) (inode_count img) i
-  pub file : (inode (view img) i).kind ≡ 1
+  pub file : (inode (view img) i).kind ≡ FILE_KIND
   pub less : len < (inode (view img) i).size
 
 -- what a truncation to less asks for, by the plan
@@ -33,24 +34,24 @@ IsShorter old new i len = IsEdited old new i len (part_bytes (inode (view old) i
 
 -- the address is one of the size, the base or the level of inode i
 abbrev pub IsExtent : ℕ → ℕ → Type 0
-IsExtent i v = (64 * i + 8 ≤ v) × (v < 64 * i + 32)
+IsExtent i v = (INODE_BYTES * i + 8 ≤ v) × (v < INODE_BYTES * i + 32)
 
 -- File i has no bytes and no partition. What was its partition is free and has zeros; of the other bytes that are looked at
 -- only those of its inode and of the headers on the partition's path are others.
 pub record IsEmptied (old new : List ℕ) (i : ℕ) : Type 0 where
   pub size : (inode (view new) i).size ≡ 0
   pub base : (inode (view new) i).base ≡ 0
-  pub level : (inode (view new) i).level ≡ 15
+  pub level : (inode (view new) i).level ≡ NO_PARTITION
   pub gone : (v : ℕ) → IsIn (part_of (view old) i) v → view new v ≡ 0
   pub headers : HeadersStand (view new) (live_parts (view new) (inode_count new))
   pub others : (v : ℕ) → (IsExtent i v → ⊥) → (IsInHeader (part_of (view old) i) v → ⊥) → (IsIn (part_of (view old) i) v → ⊥) → view new v ≡ view old v
   pub inodes : inode_count new ≡ inode_count old
   -- nothing is mapped under it; off it and root slot 2 each walk stays, and so does each byte of root slots 3 to 9
-  pub unmapped : (q : ℕ) → IsIn (part_of (view old) i) (q * 4096) → page_at new 4 q ≡ 0
-  pub pages : (q : ℕ) → q / 2 ^ 27 ≢ 2 → (IsIn (part_of (view old) i) (q * 4096) → ⊥) → page_at new 4 q ≡ page_at old 4 q
-  pub staged : (v : ℕ) → 3 * 2 ^ 39 ≤ v → v < 10 * 2 ^ 39 → byte new v ≡ byte old v
-  pub roots : (k : ℕ) → 3 ≤ k → k < 10 → page_at new 1 k ≡ page_at old 1 k
-  pub head : (w : ℕ) → w < 512 → word new w ≡ word old w
+  pub unmapped : (q : ℕ) → IsIn (part_of (view old) i) (q * PAGE_BYTES) → page_at new 4 q ≡ 0
+  pub pages : (q : ℕ) → q / SLOT_PAGES ≢ STAGING_SLOT → (IsIn (part_of (view old) i) (q * PAGE_BYTES) → ⊥) → page_at new 4 q ≡ page_at old 4 q
+  pub staged : (v : ℕ) → (STAGING_SLOT + 1) * SLOT_SPAN ≤ v → v < PARTITION_SLOT * SLOT_SPAN → byte new v ≡ byte old v
+  pub roots : (k : ℕ) → STAGING_SLOT + 1 ≤ k → k < PARTITION_SLOT → page_at new 1 k ≡ page_at old 1 k
+  pub head : (w : ℕ) → w < PAGE_WORDS → word new w ≡ word old w
   pub length : length new ≡ length old
 
 -- file i was cut to a length

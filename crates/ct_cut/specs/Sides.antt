@@ -1,5 +1,6 @@
 -- What a cut asks for beside the tables of the file's side.
 use Rattle.std.specs.Prelude.{ℕ, ◌+◌, ◌-◌, ◌*◌, ◌++◌, nat_lt, if◌then◌else◌, List, [], ◌∷◌}
+use Rattle.ct_base.specs.declared.layout.TheConstants.{PAGE_BYTES}
 use Rattle.ct_base.specs.Plan.{page_want, table_want}
 use Rattle.ct_base.specs.Wants.{Want}
 use Rattle.ct_plan.specs.Few.{edge, few_wants}
@@ -12,11 +13,11 @@ zeros from to = record { from = from; to = to; given = Same 0 }
 
 -- the tables of root slot 2 for pages b and on, n of them
 abbrev pub side_tables : ℕ → ℕ → List Want
-side_tables b n = table_want (edge 3 b) (b * 4096) ∷ table_want (edge 3 (b + n)) ((b + n - 1) * 4096) ∷ []
+side_tables b n = table_want (edge 3 b) (b * PAGE_BYTES) ∷ table_want (edge 3 (b + n)) ((b + n - 1) * PAGE_BYTES) ∷ []
 
 -- the first page, where the zeros begin behind its begin
 abbrev pub edge_page : ℕ → ℕ → ℕ → List Want
-edge_page a b from = if nat_lt (a * 4096) from then page_want (b * 4096) ∷ [] else []
+edge_page a b from = if nat_lt (a * PAGE_BYTES) from then page_want (b * PAGE_BYTES) ∷ [] else []
 
 abbrev pub staged_wants : ℕ → ℕ → ℕ → ℕ → List Want
 staged_wants a b n from = side_tables b n ++ edge_page a b from

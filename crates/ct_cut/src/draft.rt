@@ -12,7 +12,7 @@ ghost use Rattle.ct_swap.specs.Swap.{LeaveTables};
 ghost use Rattle.ct_words.specs.Drafted.{MapsAlike};
 ghost use Rattle.ct_write.specs.Recorded.{IsBare};
 
-use ct_base::{Inode, Vaddr};
+use ct_base::{Inode, MOST_INODES, Vaddr};
 use ct_header::release;
 use ct_inode::get;
 use ct_level::AnyPart;
@@ -48,7 +48,7 @@ fn part_of(inode: Inode) -> AnyPart
 pub fn give_up<D: Pm>(draft: &mut Draft<D>, inode: u64) -> Result<(), PmFault>
     requires tables { AreTables (words_under draft.old) }
     requires from { 1 ≤ inode }
-    requires to { inode ≤ 1048576 }
+    requires to { inode ≤ MOST_INODES }
     requires can { CanGiveUp (words_under draft.old) (inode_at (view (words_under draft.old)) inode) }
     requires maps { MapsAlike 1 (words_under draft.old) (drafted draft.old) }
     requires leave { LeaveTables (words_under draft.old) (pairs_of draft.old) }

@@ -1,5 +1,5 @@
 // What is there before the record of a cut: the tables of both sides, and the page on the edge.
-ghost use Rattle.std.specs.Prelude.{◌≡◌, ◌≢◌, ℕ, ◌+◌, ◌*◌, ◌/◌, ◌%◌, ◌^◌, ◌<◌, ◌≤◌, length, Contains, OnOk};
+ghost use Rattle.std.specs.Prelude.{◌≡◌, ◌≢◌, ℕ, ◌+◌, ◌*◌, ◌/◌, ◌%◌, ◌<◌, ◌≤◌, length, Contains, OnOk};
 ghost use Rattle.ct_base.specs.Causes.{HasCause};
 ghost use Rattle.ct_base.specs.Inode.{inode as inode_at};
 ghost use Rattle.ct_base.specs.Plan.{give_up_wants};
@@ -18,15 +18,13 @@ ghost use Rattle.ct_pm.specs.Device.{NothingPending};
 ghost use Rattle.ct_pm.specs.Phase.{Phase};
 
 use crate::side::stage_side;
+use ct_base::{ADDRESS_END, PAGE_BYTES, PARTITION_SLOT, SLOT_PAGES, STAGING_SLOT};
 use ct_frames::Frames;
 use ct_inode::get;
 use ct_plan::side_wants;
 use ct_pm::{Pm, PmFault};
 use ct_walk::ensure_all;
 use ct_write::{page_of, staged_page};
-
-/// How many bytes a page has.
-const PAGE: u64 = 4096;
 
 // Makes the tables of pages a and on, n of them, and of pages b and on, with which they change places, and stages the page on
 // the edge of the zeros that are left from an address on.
@@ -44,16 +42,16 @@ pub fn prepare_range<D: Pm>(
     requires agrees { Agrees (D.words dev.old) frames.old }
     requires settled { NothingPending (D.told dev.old) }
     requires some { 1 ≤ n }
-    requires first_from { 10 * 2 ^ 27 ≤ a }
-    requires first_to { a + n ≤ 2 ^ 36 }
-    requires second_from { 2 * 2 ^ 27 ≤ b }
-    requires second_to { b + n ≤ 3 * 2 ^ 27 }
-    requires alike { a % 2 ^ 27 ≡ b % 2 ^ 27 }
-    requires begins { from ≤ (a + 1) * 4096 }
-    requires ends { (a + n) * 4096 ≤ to }
+    requires first_from { PARTITION_SLOT * SLOT_PAGES ≤ a }
+    requires first_to { a + n ≤ ADDRESS_END / PAGE_BYTES }
+    requires second_from { STAGING_SLOT * SLOT_PAGES ≤ b }
+    requires second_to { b + n ≤ (STAGING_SLOT + 1) * SLOT_PAGES }
+    requires alike { a % SLOT_PAGES ≡ b % SLOT_PAGES }
+    requires begins { from ≤ (a + 1) * PAGE_BYTES }
+    requires ends { (a + n) * PAGE_BYTES ≤ to }
     requires room { missing (D.words dev.old) (cut_asks a b n from) ≤ length frames.old.free }
     ensures prepared { OnOk result (Prepared (D.words dev.old) (D.words dev.new) a b n (zeros from to)) }
-    ensures unmapped { OnOk result ((q : ℕ) → q / 2 ^ 27 ≡ 2 → (a * 4096 < from → q ≢ b) → page_at (D.words dev.new) 4 q ≡ 0) }
+    ensures unmapped { OnOk result ((q : ℕ) → q / SLOT_PAGES ≡ STAGING_SLOT → (a * PAGE_BYTES < from → q ≢ b) → page_at (D.words dev.new) 4 q ≡ 0) }
     ensures agrees { OnOk result (Agrees (D.words dev.new) frames.new) }
     ensures taken { OnOk result (length frames.new.free + missing (D.words dev.old) (cut_asks a b n from) ≡ length frames.old.free) }
     ensures settled { OnOk result (NothingPending (D.told dev.new)) }
@@ -91,7 +89,7 @@ pub fn prepare_whole<D: Pm>(dev: &mut D, frames: &mut Frames, inode: u64) -> Res
 {
     let file = get(dev, inode);
     let pages = 8u64.pow(file.level as u32);
-    let end = file.base + PAGE * pages;
+    let end = file.base + PAGE_BYTES * pages;
     prepare_range(
         dev,
         frames,

@@ -12,20 +12,18 @@ ghost use Rattle.ct_record.specs.Seen.{Drafts, count_of, device_behind, drafted,
 ghost use Rattle.ct_write.specs.Recorded.{IsBare, SettlesOr};
 
 use crate::draft::give_up;
+use ct_base::{INODE_BYTES, MOST_INODES, NO_PARTITION, PAGE_BYTES};
 use ct_inode::place;
 use ct_pm::{Pm, PmFault};
 use ct_record::{Broken, Draft, Idle, conclude};
 use ct_words::put_words;
 
-/// The level of an inode that has no partition.
-const NO_PART: u64 = 15;
-
 // Drafts that a file has no bytes and no partition.
 fn draft_empty<D: Pm>(draft: &mut Draft<D>, inode: u64) -> Result<(), PmFault>
     requires tables { AreTables (words_under draft.old) }
     requires from { 1 ≤ inode }
-    requires to { inode ≤ 1048576 }
-    requires there { page_at (words_under draft.old) 4 (64 * inode / 4096) ≢ 0 }
+    requires to { inode ≤ MOST_INODES }
+    requires there { page_at (words_under draft.old) 4 (INODE_BYTES * inode / PAGE_BYTES) ≢ 0 }
     requires can { CanGiveUp (words_under draft.old) (inode_at (view (words_under draft.old)) inode) }
     requires none { pairs_of draft.old ≡ [] }
     requires count { count_of draft.old ≡ 0 }
@@ -36,7 +34,7 @@ fn draft_empty<D: Pm>(draft: &mut Draft<D>, inode: u64) -> Result<(), PmFault>
     ensures drafts { Drafts draft.old draft.new }
     ensures cause { HasCause (faults_under draft.old) (faults_under draft.new) result }
 {
-    let words = [0, 0, NO_PART];
+    let words = [0, 0, NO_PARTITION];
     put_words(draft, place(inode).get() + 8, &words)?;
     give_up(draft, inode)?;
     Ok(())
@@ -48,8 +46,8 @@ pub fn empty_now<D: Pm>(dev: D, inode: u64) -> Result<D, Broken<D>>
     requires shut { IsShut (D.words dev) }
     requires settled { NothingPending (D.told dev) }
     requires from { 1 ≤ inode }
-    requires to { inode ≤ 1048576 }
-    requires there { page_at (D.words dev) 4 (64 * inode / 4096) ≢ 0 }
+    requires to { inode ≤ MOST_INODES }
+    requires there { page_at (D.words dev) 4 (INODE_BYTES * inode / PAGE_BYTES) ≢ 0 }
     requires can { CanGiveUp (D.words dev) (inode_at (view (D.words dev)) inode) }
     ensures emptied { OnOk result (Emptied (D.words dev) (D.words (device_behind result)) inode) }
     ensures shut { OnOk result (IsShut (D.words (device_behind result))) }

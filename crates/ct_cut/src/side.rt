@@ -1,5 +1,5 @@
 // The staging slot before a cut: tables, and the page on the edge, under one fence.
-ghost use Rattle.std.specs.Prelude.{◌≡◌, ◌≢◌, ℕ, ◌+◌, ◌-◌, ◌*◌, ◌/◌, ◌^◌, ◌<◌, ◌≤◌, List, length, Contains, Option, OnOk};
+ghost use Rattle.std.specs.Prelude.{◌≡◌, ◌≢◌, ℕ, ◌+◌, ◌-◌, ◌*◌, ◌/◌, ◌<◌, ◌≤◌, List, length, Contains, Option, OnOk};
 ghost use Rattle.ct_base.specs.Causes.{HasCause};
 ghost use Rattle.ct_base.specs.Spares.{SparesFiles};
 ghost use Rattle.ct_base.specs.State.{SameState};
@@ -17,24 +17,22 @@ ghost use Rattle.ct_stage.specs.Staged.{Begun, Holds, IsLaid, IsResting, Makes, 
 ghost use Rattle.ct_walk.specs.Growth.{Covers};
 ghost use Rattle.ct_walk.specs.Pages.{on_way};
 
+use ct_base::{ADDRESS_END, PAGE_BYTES, PARTITION_SLOT, ROOT_WORD, SLOT_PAGES, STAGING_SLOT};
 use ct_frames::Frames;
 use ct_plan::edge;
 use ct_pm::{Pm, PmFault};
 use ct_stage::{Edit, Given, edited_page, stage_end, stage_page, stage_table};
 
-/// How many bytes a page has.
-const PAGE: u64 = 4096;
-
 // Makes the tables for pages b and on, n of them, in root slot 2; nothing is waited for.
 fn stage_tables<D: Pm>(dev: &mut D, frames: &mut Frames, b: u64, n: u64) -> Result<(), PmFault>
     requires tables { AreTables (D.words dev.old) }
     requires agrees { Agrees (D.words dev.old) frames.old }
-    requires from { 2 * 2 ^ 27 ≤ b }
-    requires to { b + n ≤ 3 * 2 ^ 27 }
+    requires from { STAGING_SLOT * SLOT_PAGES ≤ b }
+    requires to { b + n ≤ (STAGING_SLOT + 1) * SLOT_PAGES }
     requires some { 1 ≤ n }
     requires room { missing (D.words dev.old) (side_tables b n) ≤ length frames.old.free }
     ensures works { (start : List ℕ) → (was : Option History) → (first : FreePages) → Begun start (D.words dev.old) was (D.told dev.old) first frames.old →
-        Works 16898 start (D.words dev.new) was (D.told dev.new) first frames.new }
+        Works (ROOT_WORD + STAGING_SLOT) start (D.words dev.new) was (D.told dev.new) first frames.new }
     ensures first { OnOk result (on_way (D.words dev.new) b (4 - edge_of 3 b) ≢ 0) }
     ensures last { OnOk result (on_way (D.words dev.new) (b + n - 1) (4 - edge_of 3 (b + n)) ≢ 0) }
     ensures makes { OnOk result ((wants : List Wanted) → Covers wants b (4 - edge_of 3 b) → Covers wants (b + n - 1) (4 - edge_of 3 (b + n)) → Makes wants (D.words dev.old) (D.words dev.new) frames.old frames.new) }
@@ -59,22 +57,22 @@ fn stage_edge<D: Pm>(
 ) -> Result<(), PmFault>
     requires tables { AreTables (D.words dev.old) }
     requires agrees { Agrees (D.words dev.old) frames.old }
-    requires first_from { 10 * 2 ^ 27 ≤ a }
-    requires first_to { a < 2 ^ 36 }
-    requires second_from { 2 * 2 ^ 27 ≤ b }
-    requires second_to { b < 3 * 2 ^ 27 }
+    requires first_from { PARTITION_SLOT * SLOT_PAGES ≤ a }
+    requires first_to { a < ADDRESS_END / PAGE_BYTES }
+    requires second_from { STAGING_SLOT * SLOT_PAGES ≤ b }
+    requires second_to { b < (STAGING_SLOT + 1) * SLOT_PAGES }
     requires absent { page_at (D.words dev.old) 4 b ≡ 0 }
     requires room { missing (D.words dev.old) (edge_page a b from) ≤ length frames.old.free }
     ensures works { (start : List ℕ) → (was : Option History) → (first : FreePages) → Begun start (D.words dev.old) was (D.told dev.old) first frames.old →
-        Works 16898 start (D.words dev.new) was (D.told dev.new) first frames.new }
-    ensures holds { OnOk result (a * 4096 < from → Holds (D.words dev.new) b (staged_words (D.words dev.old) (zeros from to) a)) }
-    ensures makes { OnOk result ((wants : List Wanted) → (a * 4096 < from → Covers wants b 4) → Makes wants (D.words dev.old) (D.words dev.new) frames.old frames.new) }
+        Works (ROOT_WORD + STAGING_SLOT) start (D.words dev.new) was (D.told dev.new) first frames.new }
+    ensures holds { OnOk result (a * PAGE_BYTES < from → Holds (D.words dev.new) b (staged_words (D.words dev.old) (zeros from to) a)) }
+    ensures makes { OnOk result ((wants : List Wanted) → (a * PAGE_BYTES < from → Covers wants b 4) → Makes wants (D.words dev.old) (D.words dev.new) frames.old frames.new) }
     ensures begun { OnOk result ((start : List ℕ) → (was : Option History) → (first : FreePages) → Begun start (D.words dev.old) was (D.told dev.old) first frames.old →
         Begun start (D.words dev.new) was (D.told dev.new) first frames.new) }
     ensures left { OnOk result ((q : ℕ) → Contains frames.new.free q → Contains frames.old.free q) }
     ensures cause { HasCause (D.faults dev.old) (D.faults dev.new) result }
 {
-    if from <= a * PAGE {
+    if from <= a * PAGE_BYTES {
         return Ok(());
     }
     let edit = Edit {
@@ -82,7 +80,7 @@ fn stage_edge<D: Pm>(
         to,
         given: Given::Same(0),
     };
-    let words = edited_page(dev, &edit, a * PAGE);
+    let words = edited_page(dev, &edit, a * PAGE_BYTES);
     stage_page(dev, frames, b, &words)?;
     Ok(())
 }
@@ -100,17 +98,17 @@ fn stage_work<D: Pm>(
     requires tables { AreTables (D.words dev.old) }
     requires agrees { Agrees (D.words dev.old) frames.old }
     requires settled { NothingPending (D.told dev.old) }
-    requires empty { word (D.words dev.old) 16898 ≡ 0 }
+    requires empty { word (D.words dev.old) (ROOT_WORD + STAGING_SLOT) ≡ 0 }
     requires some { 1 ≤ n }
-    requires first_from { 10 * 2 ^ 27 ≤ a }
-    requires first_to { a + n ≤ 2 ^ 36 }
-    requires second_from { 2 * 2 ^ 27 ≤ b }
-    requires second_to { b + n ≤ 3 * 2 ^ 27 }
+    requires first_from { PARTITION_SLOT * SLOT_PAGES ≤ a }
+    requires first_to { a + n ≤ ADDRESS_END / PAGE_BYTES }
+    requires second_from { STAGING_SLOT * SLOT_PAGES ≤ b }
+    requires second_to { b + n ≤ (STAGING_SLOT + 1) * SLOT_PAGES }
     requires room { missing (D.words dev.old) (staged_wants a b n from) ≤ length frames.old.free }
-    ensures works { Works 16898 (D.words dev.old) (D.words dev.new) (D.told dev.old) (D.told dev.new) frames.old frames.new }
+    ensures works { Works (ROOT_WORD + STAGING_SLOT) (D.words dev.old) (D.words dev.new) (D.told dev.old) (D.told dev.new) frames.old frames.new }
     ensures makes { OnOk result (Makes (staged_wants a b n from) (D.words dev.old) (D.words dev.new) frames.old frames.new) }
     ensures met { OnOk result (AreMet (D.words dev.new) (staged_wants a b n from)) }
-    ensures holds { OnOk result (a * 4096 < from → Holds (D.words dev.new) b (staged_words (D.words dev.old) (zeros from to) a)) }
+    ensures holds { OnOk result (a * PAGE_BYTES < from → Holds (D.words dev.new) b (staged_words (D.words dev.old) (zeros from to) a)) }
     ensures settled { OnOk result (NothingPending (D.told dev.new)) }
     ensures cause { HasCause (D.faults dev.old) (D.faults dev.new) result }
 {
@@ -136,15 +134,15 @@ pub fn stage_side<D: Pm>(
     requires agrees { Agrees (D.words dev.old) frames.old }
     requires settled { NothingPending (D.told dev.old) }
     requires some { 1 ≤ n }
-    requires first_from { 10 * 2 ^ 27 ≤ a }
-    requires first_to { a + n ≤ 2 ^ 36 }
-    requires second_from { 2 * 2 ^ 27 ≤ b }
-    requires second_to { b + n ≤ 3 * 2 ^ 27 }
+    requires first_from { PARTITION_SLOT * SLOT_PAGES ≤ a }
+    requires first_to { a + n ≤ ADDRESS_END / PAGE_BYTES }
+    requires second_from { STAGING_SLOT * SLOT_PAGES ≤ b }
+    requires second_to { b + n ≤ (STAGING_SLOT + 1) * SLOT_PAGES }
     requires room { missing (D.words dev.old) (staged_wants a b n from) ≤ length frames.old.free }
 
     ensures met { OnOk result (AreMet (D.words dev.new) (staged_wants a b n from)) }
-    ensures holds { OnOk result (a * 4096 < from → Holds (D.words dev.new) b (staged_words (D.words dev.old) (zeros from to) a)) }
-    ensures unmapped { OnOk result ((q : ℕ) → q / 2 ^ 27 ≡ 2 → (a * 4096 < from → q ≢ b) → page_at (D.words dev.new) 4 q ≡ 0) }
+    ensures holds { OnOk result (a * PAGE_BYTES < from → Holds (D.words dev.new) b (staged_words (D.words dev.old) (zeros from to) a)) }
+    ensures unmapped { OnOk result ((q : ℕ) → q / SLOT_PAGES ≡ STAGING_SLOT → (a * PAGE_BYTES < from → q ≢ b) → page_at (D.words dev.new) 4 q ≡ 0) }
     ensures agrees { OnOk result (Agrees (D.words dev.new) frames.new) }
     ensures taken { OnOk result (length frames.new.free + missing (D.words dev.old) (staged_wants a b n from) ≡ length frames.old.free) }
     ensures settled { OnOk result (NothingPending (D.told dev.new)) }

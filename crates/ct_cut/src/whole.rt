@@ -19,18 +19,13 @@ ghost use Rattle.ct_tree.specs.Stands.{IsFile};
 
 use crate::prepare::{prepare_range, prepare_whole};
 use crate::record::empty_now;
+use ct_base::{PAGE_BYTES, STAGING_SLOT};
 use ct_frames::Frames;
 use ct_inode::get;
 use ct_pm::Pm;
 use ct_record::Broken;
 use ct_walk::unstage;
 use ct_write::{page_of, staged_page, touched, write_now};
-
-/// How many bytes a page has.
-const PAGE: u64 = 4096;
-
-/// The staging slot of the calls.
-const STAGING: u64 = 2;
 
 // Cuts a file to a length that is not 0.
 fn cut_inside<D: Pm>(dev: D, frames: &mut Frames, inode: u64, len: u64) -> Result<D, Broken<D>>
@@ -51,7 +46,7 @@ fn cut_inside<D: Pm>(dev: D, frames: &mut Frames, inode: u64, len: u64) -> Resul
 {
     let mut dev = dev;
     let file = get(&dev, inode);
-    let rest = PAGE * 8u64.pow(file.level as u32) - len;
+    let rest = PAGE_BYTES * 8u64.pow(file.level as u32) - len;
     let from = file.base + len;
     let a = page_of(from);
     let b = staged_page(from);
@@ -64,7 +59,7 @@ fn cut_inside<D: Pm>(dev: D, frames: &mut Frames, inode: u64, len: u64) -> Resul
         Ok(dev) => dev,
         Err(broken) => return Err(broken),
     };
-    match unstage(&mut dev, frames, STAGING) {
+    match unstage(&mut dev, frames, STAGING_SLOT) {
         Ok(()) => Ok(dev),
         Err(_) => Err(Broken { dev }),
     }
@@ -95,7 +90,7 @@ fn cut_whole<D: Pm>(dev: D, frames: &mut Frames, inode: u64) -> Result<D, Broken
         Ok(dev) => dev,
         Err(broken) => return Err(broken),
     };
-    match unstage(&mut dev, frames, STAGING) {
+    match unstage(&mut dev, frames, STAGING_SLOT) {
         Ok(()) => Ok(dev),
         Err(_) => Err(Broken { dev }),
     }

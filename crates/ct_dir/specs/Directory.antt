@@ -4,6 +4,8 @@ use Rattle.std.specs.Option.{option_map}
 use Rattle.std.specs.Borrow.{Bor}
 use Rattle.std.specs.declared.cmp.Ordering.TheVariants.{Less}
 use Rattle.ct_base.specs.declared.inode.Inode.{Inode}
+use Rattle.ct_base.specs.declared.TheConstants.{NAME_BYTES}
+use Rattle.ct_base.specs.declared.layout.TheConstants.{DIRECTORY_KIND, ENTRY_BYTES}
 use Rattle.ct_base.specs.Objects.{Object, object_of}
 use Rattle.ct_base.specs.Path.{is_name, name_cmp}
 use Rattle.ct_base.specs.Rules.{IsPlaced}
@@ -19,14 +21,14 @@ dir_of img dir = object_of (view img) dir
 -- what the format asks of a slot that is used: some inode, and a name that is padded with zeros
 pub record IsText (f : Object) (o : ℕ) : Type 0 where
   pub some : slot_inode f o ≢ 0
-  pub length : slot_length f o ≤ 248
+  pub length : slot_length f o ≤ NAME_BYTES
   pub name : is_name (slot_name f o) ≡ true
-  pub padding : (k : ℕ) → 8 + slot_length f o ≤ k → k < 256 → f.at (o + k) ≡ 0
+  pub padding : (k : ℕ) → 8 + slot_length f o ≤ k → k < ENTRY_BYTES → f.at (o + k) ≡ 0
 
 -- what each call asks of a directory that it reads
 pub record IsReadable (img : List ℕ) (dir : Inode) : Type 0 where
   pub tables : AreTables img
-  pub kind : dir.kind ≡ 2
+  pub kind : dir.kind ≡ DIRECTORY_KIND
   pub placed : IsPlaced dir
   pub texts : (o : ℕ) → IsSlot (dir_of img dir) o → IsText (dir_of img dir) o
 

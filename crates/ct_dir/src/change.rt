@@ -1,5 +1,5 @@
 // Slots that are changed through a draft.
-ghost use Rattle.std.specs.Prelude.{◌≡◌, ◌≢◌, ℕ, ◌+◌, ◌/◌, ◌%◌, ◌^◌, ◌≤◌, ◌++◌, true, OnOk};
+ghost use Rattle.std.specs.Prelude.{◌≡◌, ◌≢◌, ℕ, ◌+◌, ◌/◌, ◌%◌, ◌≤◌, ◌++◌, true, OnOk};
 ghost use Rattle.ct_base.specs.Causes.{HasCause};
 ghost use Rattle.ct_base.specs.Inode.{part_bytes};
 ghost use Rattle.ct_base.specs.Path.{is_name};
@@ -13,7 +13,9 @@ ghost use Rattle.ct_record.specs.Seen.{Drafts, count_of, drafted, faults_under, 
 ghost use Rattle.ct_words.specs.Drafted.{MapsAlike};
 
 use crate::names::{SLOT_WORDS, slot_words};
-use ct_base::Inode;
+use ct_base::{
+    ENTRY_BYTES, ENTRY_WORDS, Inode, MOST_INODES, MOST_LONG_PAIRS, PAGE_BYTES, SLOT_SPAN,
+};
 use ct_pm::{Pm, PmFault};
 use ct_record::Draft;
 use ct_words::put_words;
@@ -34,21 +36,21 @@ pub fn set<D: Pm>(
 ) -> Result<(), PmFault>
     requires tables { AreTables (words_under draft.old) }
     requires placed { HasRoom dir }
-    requires aligned { offset % 256 ≡ 0 }
-    requires inside { offset + 256 ≤ part_bytes dir.level }
-    requires inode { inode ≤ 1048576 }
+    requires aligned { offset % ENTRY_BYTES ≡ 0 }
+    requires inside { offset + ENTRY_BYTES ≤ part_bytes dir.level }
+    requires inode { inode ≤ MOST_INODES }
     requires name { is_name name.now ≡ true }
-    requires there { page_at (words_under draft.old) 4 ((dir.base + offset) / 4096) ≢ 0 }
-    requires room { count_of draft.old + 32 ≤ 8184 }
+    requires there { page_at (words_under draft.old) 4 ((dir.base + offset) / PAGE_BYTES) ≢ 0 }
+    requires room { count_of draft.old + ENTRY_WORDS ≤ MOST_LONG_PAIRS }
 
     ensures added { OnOk result (pairs_of draft.new
-        ≡ pairs_to (place_at (words_under draft.old) (dir.base + offset)) (slot_words inode name.now) 32 ++ pairs_of draft.old) }
-    ensures count { OnOk result (count_of draft.new ≡ count_of draft.old + 32) }
+        ≡ pairs_to (place_at (words_under draft.old) (dir.base + offset)) (slot_words inode name.now) ENTRY_WORDS ++ pairs_of draft.old) }
+    ensures count { OnOk result (count_of draft.new ≡ count_of draft.old + ENTRY_WORDS) }
 
     // Where the pairs so far left the tables and the pages of the root slot, the slot is the new one, and all other words stay.
-    ensures rewrites { OnOk result (MapsAlike (dir.base / 2 ^ 39) (words_under draft.old) (drafted draft.old)
+    ensures rewrites { OnOk result (MapsAlike (dir.base / SLOT_SPAN) (words_under draft.old) (drafted draft.old)
         → Rewrites (drafted draft.old) (drafted draft.new) (dir.base + offset) (slot_words inode name.now)) }
-    ensures maps { OnOk result (MapsAlike (dir.base / 2 ^ 39) (words_under draft.old) (drafted draft.old)
+    ensures maps { OnOk result (MapsAlike (dir.base / SLOT_SPAN) (words_under draft.old) (drafted draft.old)
         → (slot : ℕ) → MapsAlike slot (words_under draft.old) (drafted draft.old)
         → MapsAlike slot (words_under draft.new) (drafted draft.new)) }
 
@@ -71,16 +73,16 @@ pub fn clear<D: Pm>(draft: &mut Draft<D>, dir: Inode, offset: u64) -> Result<(),
     requires tables { AreTables (words_under draft.old) }
     requires placed { IsPlaced dir }
     requires used { IsSlot (dir_of (words_under draft.old) dir) offset }
-    requires room { count_of draft.old + 32 ≤ 8184 }
+    requires room { count_of draft.old + ENTRY_WORDS ≤ MOST_LONG_PAIRS }
 
     ensures added { OnOk result (pairs_of draft.new
-        ≡ pairs_to (place_at (words_under draft.old) (dir.base + offset)) empty_words 32 ++ pairs_of draft.old) }
-    ensures count { OnOk result (count_of draft.new ≡ count_of draft.old + 32) }
+        ≡ pairs_to (place_at (words_under draft.old) (dir.base + offset)) empty_words ENTRY_WORDS ++ pairs_of draft.old) }
+    ensures count { OnOk result (count_of draft.new ≡ count_of draft.old + ENTRY_WORDS) }
 
     // Where the pairs so far left the tables and the pages of the root slot, the slot is empty, and all other words stay.
-    ensures rewrites { OnOk result (MapsAlike (dir.base / 2 ^ 39) (words_under draft.old) (drafted draft.old)
+    ensures rewrites { OnOk result (MapsAlike (dir.base / SLOT_SPAN) (words_under draft.old) (drafted draft.old)
         → Rewrites (drafted draft.old) (drafted draft.new) (dir.base + offset) empty_words) }
-    ensures maps { OnOk result (MapsAlike (dir.base / 2 ^ 39) (words_under draft.old) (drafted draft.old)
+    ensures maps { OnOk result (MapsAlike (dir.base / SLOT_SPAN) (words_under draft.old) (drafted draft.old)
         → (slot : ℕ) → MapsAlike slot (words_under draft.old) (drafted draft.old)
         → MapsAlike slot (words_under draft.new) (drafted draft.new)) }
 

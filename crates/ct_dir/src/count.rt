@@ -3,9 +3,8 @@ ghost use Rattle.std.specs.Prelude.{◌≡◌, length};
 ghost use Rattle.ct_base.specs.Slots.{entries as entries_of, free_slot as free_slot_of};
 ghost use Rattle.ct_dir.specs.Directory.{IsReadable, dir_of};
 
-use crate::slot::SLOT_BYTES;
 use crate::slots::Slots;
-use ct_base::Inode;
+use ct_base::{ENTRY_BYTES, Inode};
 use ct_pm::Pm;
 
 /// The offset of the first empty slot of a directory, and its size where none is empty.
@@ -19,7 +18,7 @@ pub fn free_slot<D: Pm>(dev: &D, dir: Inode) -> u64
         if slot.offset != free {
             return free;
         }
-        free += SLOT_BYTES;
+        free += ENTRY_BYTES;
     }
     free
 }

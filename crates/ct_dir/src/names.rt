@@ -71,7 +71,7 @@ pub fn name_words(name: &[u8]) -> [u64; NAME_WORDS]
 /// The 32 words of the slot of a name and the inode that it names.
 pub fn slot_words(inode: u64, name: &[u8]) -> [u64; SLOT_WORDS]
     requires inode { inode < 2 ^ 32 }
-    requires short { length name.now ≤ 248 }
+    requires short { length name.now ≤ NAME_BYTES }
     ensures { result ≡ slot_words inode name.now }
 {
     let mut words = [0; SLOT_WORDS];

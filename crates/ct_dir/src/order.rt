@@ -11,7 +11,7 @@ use crate::Found;
 use crate::names::Key;
 use crate::slot::Slot;
 use crate::slots::Slots;
-use ct_base::Inode;
+use ct_base::{ENTRY_WORDS, Inode};
 use ct_pm::Pm;
 use std::cmp::Ordering;
 
@@ -24,7 +24,7 @@ fn key_of(name: Option<&[u8]>) -> Option<Key>
 
 /// Whether a slot's name comes later than a name, or there is none.
 fn is_later<D: Pm>(dev: &D, slot: Slot, after: &Option<Key>) -> bool
-    requires { slot.place + 32 ≤ length (D.words dev.now) }
+    requires { slot.place + ENTRY_WORDS ≤ length (D.words dev.now) }
     ensures { (f : Object) → (x : Option (List ℕ)) → Holds (D.words dev.now) f slot → AreKeys x after.now
         → IsTrue result ↔ IsLater x (slot_name f slot.offset) }
 {
@@ -43,7 +43,7 @@ struct Best {
 
 /// Whether a slot's name comes before that of the best entry, or there is none.
 fn is_nearer<D: Pm>(dev: &D, slot: Slot, best: &Option<Best>) -> bool
-    requires { slot.place + 32 ≤ length (D.words dev.now) }
+    requires { slot.place + ENTRY_WORDS ≤ length (D.words dev.now) }
     ensures { (f : Object) → (x : Option (List ℕ)) → Holds (D.words dev.now) f slot → AreBest x best.now
         → IsTrue result ↔ IsBefore x (slot_name f slot.offset) }
 {

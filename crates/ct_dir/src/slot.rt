@@ -8,15 +8,9 @@ ghost use Rattle.ct_dir.specs.Keys.{IsSpelled, byte_of, name_byte, word_after, w
 
 use crate::lookup::Found;
 use crate::names::{Key, NAME_WORDS};
-use ct_base::{NameBuf, Page};
+use ct_base::{ENTRY_BYTES, ENTRY_WORDS, NAME_BYTES, NameBuf, PAGE_BYTES, PAGE_WORDS, Page};
 use ct_pm::Pm;
 use std::cmp::Ordering;
-
-/// The bytes of a slot.
-pub const SLOT_BYTES: u64 = 256;
-
-/// The bytes of a page, which holds 16 slots.
-pub const PAGE_BYTES: u64 = 4096;
 
 /// A slot that was met, with its first word.
 #[derive(Clone, Copy, Debug)]
@@ -34,13 +28,13 @@ pub struct Slot {
 impl Slot {
     /// The slot in a page at an offset of the directory.
     pub fn read<D: Pm>(dev: &D, page: Page, offset: u64) -> Slot
-        requires there { page * 512 + 512 ≤ length_of (D.words dev.now) }
-        requires aligned { offset % 256 ≡ 0 }
+        requires there { page * PAGE_WORDS + PAGE_WORDS ≤ length_of (D.words dev.now) }
+        requires aligned { offset % ENTRY_BYTES ≡ 0 }
         ensures offset { result.offset ≡ offset }
-        ensures place { result.place ≡ page * 512 + offset % 4096 / 8 }
+        ensures place { result.place ≡ page * PAGE_WORDS + offset % PAGE_BYTES / 8 }
         ensures head { result.head ≡ word (D.words dev.now) result.place }
     {
-        let place = page.number() * 512 + offset % PAGE_BYTES / 8;
+        let place = page.number() * PAGE_WORDS + offset % PAGE_BYTES / 8;
         Slot {
             offset,
             place,
@@ -69,8 +63,8 @@ impl Slot {
 
     /// Whether the slot has a name, by its length and as many words as that asks for.
     pub fn has_name<D: Pm>(self, dev: &D, key: &Key) -> bool
-        requires inside { self.place + 32 ≤ length_of (D.words dev.now) }
-        requires short { key.now.length ≤ 248 }
+        requires inside { self.place + ENTRY_WORDS ≤ length_of (D.words dev.now) }
+        requires short { key.now.length ≤ NAME_BYTES }
         ensures { IsTrue result ↔ IsSpelled (D.words dev.now) self key.now }
     {
         if self.length() != key.length {
@@ -86,8 +80,8 @@ impl Slot {
 
     /// The slot's name against another: the words decide in byte order, and where all are the same the length does.
     pub fn compare<D: Pm>(self, dev: &D, key: &Key) -> Ordering
-        requires inside { self.place + 32 ≤ length_of (D.words dev.now) }
-        ensures { result ≡ ordering_then (words_cmp (word_after (D.words dev.now) self) (slice_index key.now.words) 0 31) (nat_cmp (self.head / 2 ^ 32) key.now.length) }
+        requires inside { self.place + ENTRY_WORDS ≤ length_of (D.words dev.now) }
+        ensures { result ≡ ordering_then (words_cmp (word_after (D.words dev.now) self) (slice_index key.now.words) 0 NAME_WORDS) (nat_cmp (self.head / 2 ^ 32) key.now.length) }
     {
         for k in 0..NAME_WORDS {
             let word = dev.load(self.place + 1 + k as u64).swap_bytes();
@@ -101,9 +95,9 @@ impl Slot {
 
     /// The slot's name, to compare others with it.
     pub fn key<D: Pm>(self, dev: &D) -> Key
-        requires inside { self.place + 32 ≤ length_of (D.words dev.now) }
-        ensures size { length_of result.words ≡ 31 }
-        ensures words { (k : ℕ) → k < 31 → slice_index result.words k ≡ word_after (D.words dev.now) self k }
+        requires inside { self.place + ENTRY_WORDS ≤ length_of (D.words dev.now) }
+        ensures size { length_of result.words ≡ NAME_WORDS }
+        ensures words { (k : ℕ) → k < NAME_WORDS → slice_index result.words k ≡ word_after (D.words dev.now) self k }
         ensures length { result.length ≡ self.head / 2 ^ 32 }
     {
         let mut words = [0; NAME_WORDS];
@@ -118,8 +112,8 @@ impl Slot {
 
     /// The slot's name.
     pub fn name<D: Pm>(self, dev: &D) -> NameBuf
-        requires inside { self.place + 32 ≤ length_of (D.words dev.now) }
-        requires short { self.head / 2 ^ 32 ≤ 248 }
+        requires inside { self.place + ENTRY_WORDS ≤ length_of (D.words dev.now) }
+        requires short { self.head / 2 ^ 32 ≤ NAME_BYTES }
         ensures { result.items ≡ bytes_from (name_byte (D.words dev.now) self) 0 (self.head / 2 ^ 32) }
     {
         let length = self.length() as usize;
@@ -135,7 +129,7 @@ impl Slot {
 /// Appends the first bytes of a word, the lowest first.
 fn push_bytes(name: &mut NameBuf, word: u64, count: usize)
     requires few { count ≤ 8 }
-    requires room { array_vec_len name.old + count ≤ 248 }
+    requires room { array_vec_len name.old + count ≤ NAME_BYTES }
     ensures { name.new.items ≡ name.old.items ++ bytes_from (byte_of word) 0 count }
 {
     let bytes = word.to_le_bytes();

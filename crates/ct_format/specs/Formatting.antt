@@ -1,8 +1,10 @@
 -- What a format stores, and what a crash leaves while it runs.
-use Rattle.std.specs.Prelude.{◌≡◌, ◌⊎◌, ℕ, ◌/◌, ◌≤◌, List, [], ◌∷◌, length, slice_index}
+use Rattle.std.specs.Prelude.{◌≡◌, ◌⊎◌, ℕ, ◌-◌, ◌/◌, ◌≤◌, List, [], ◌∷◌, ◌*◌, length, slice_index}
 use Rattle.std.specs.declared.option.Option.{Option}
+use Rattle.ct_base.specs.declared.layout.TheConstants.{LONG_GATE, PAGE_WORDS, ROOT_PAGE, ROOT_WORD, SHORT_GATE}
 use Rattle.ct_base.specs.Format.{value, format_words}
 use Rattle.ct_base.specs.Head.{HeadHolds, size, magic}
+use Rattle.ct_format.specs.declared.formatting.TheConstants.{FREE_PAGE, MAGIC}
 use Rattle.ct_pm.specs.declared.step.Step.{Step}
 use Rattle.ct_pm.specs.declared.step.Step.TheVariants.{Store, Flush, Fence}
 use Rattle.ct_pm.specs.Images.{History, first}
@@ -20,13 +22,13 @@ format_word pages n w = value (format_rows pages n) w
 
 -- the superblock but for the magic, the gates, and the tables with their pages
 abbrev pub IsHeadWord : ℕ → Type 0
-IsHeadWord = IsIn 1 511
+IsHeadWord = IsIn 1 (PAGE_WORDS - 1)
 
 abbrev pub IsGate : ℕ → Type 0
-IsGate w = (w ≡ 512) ⊎ (w ≡ 527)
+IsGate w = (w ≡ LONG_GATE) ⊎ (w ≡ SHORT_GATE)
 
 abbrev pub IsTableWord : ℕ → Type 0
-IsTableWord = IsIn 16896 4608
+IsTableWord = IsIn ROOT_WORD ((FREE_PAGE - ROOT_PAGE) * PAGE_WORDS)
 
 -- a word that is stored before the magic is
 abbrev pub IsLaidOut : ℕ → Type 0
@@ -86,7 +88,7 @@ pub record GoesOnFenced (start : List ℕ) (old new : Option History) : Type 0 w
   pub unmark : fenced ≡ with_steps (magic_steps 0) old
   pub before : LeavesOnly old fenced (IsStartOrRefused start)
   pub between : LeavesOnly fenced laid IsRefused
-  pub mark : Makes (magic_steps 0x3130534654435452) laid new
+  pub mark : Makes (magic_steps MAGIC) laid new
   pub after : LeavesOnly laid new IsEmptyOrRefused
 
 -- what a crash leaves at each moment of a format

@@ -1,5 +1,6 @@
 -- What callers see of a file system that was made just now, and of a device that was not mounted.
 use Rattle.std.specs.Prelude.{◌≡◌, ◌⊎◌, ℕ, ◌+◌, ◌<◌, List, length}
+use Rattle.ct_base.specs.declared.layout.TheConstants.{LEAST_PAGES, MOST_PAGES}
 use Rattle.ct_base.specs.Format.{IsFormatted}
 use Rattle.ct_base.specs.Free.{AreFree}
 use Rattle.ct_base.specs.Rules.{Sound}
@@ -9,6 +10,7 @@ use Rattle.ct_frames.specs.Free.{FreePages}
 use Rattle.ct_tree.specs.Lands.{Lands}
 use Rattle.ct_tree.specs.Tree.{Dir, none}
 use Rattle.ct_call.specs.Calls.{StandsFor}
+use Rattle.ct_format.specs.declared.formatting.TheConstants.{FREE_PAGE}
 pub use Rattle.ct_call.specs.NotMounted.{image_dev, why_not}
 
 -- what holds of a file system that was made just now
@@ -20,9 +22,9 @@ pub record IsNew (img : List ℕ) (frames : FreePages) (pages n : ℕ) : Type 0 
   pub tables : AreTables img
   pub agrees : Agrees img frames
   pub free : AreFree img frames.free
-  -- pages 0 to 41 are taken
-  pub many : length frames.free + 42 ≡ pages
+  -- the pages before that one are taken
+  pub many : length frames.free + FREE_PAGE ≡ pages
 
 -- the device has too few pages, or too many
 abbrev pub IsMissized : ℕ → Type 0
-IsMissized pages = (pages < 256) ⊎ (262144 < pages)
+IsMissized pages = (pages < LEAST_PAGES) ⊎ (MOST_PAGES < pages)

@@ -11,7 +11,10 @@ ghost use Rattle.ct_pm.specs.declared.step.Step.TheVariants.{Store, Flush};
 ghost use Rattle.ct_format.specs.Formatting.{Formats, HasWords, IsFormatImage, IsFormatWord, IsGate, IsHeadWord, IsLaidOut, IsTableWord, Laid, Lays, Makes, format_word, magic_steps};
 
 use crate::image::page_words;
-use ct_base::{NoMemory, Page};
+use ct_base::{
+    FIRST_PAGE, LEAST_INODES, LEAST_PAGES, LONG_GATE, MOST_INODES, MOST_PAGES, NoMemory,
+    PAGE_WORDS, Page, ROOT_PAGE, SHORT_GATE,
+};
 use ct_call::{Mounted, NoMount, Why};
 use ct_frames::Frames;
 use ct_pm::{Pm, PmFault, lay};
@@ -19,14 +22,6 @@ use std::alloc::Global;
 
 /// Word 0 of an image, by which it is known: the bytes `RTCTFS01`.
 const MAGIC: u64 = 0x3130_5346_5443_5452;
-
-/// The least and the greatest number of pages of a device.
-const LEAST_PAGES: u64 = 256;
-
-const MOST_PAGES: u64 = 262_144;
-
-/// The page of the root table. Those before it hold the superblock and the redo record.
-const ROOT_PAGE: u64 = 33;
 
 /// The first page that the image of an empty tree leaves free.
 const FREE_PAGE: u64 = 42;
@@ -52,7 +47,7 @@ fn put_magic<D: Pm>(dev: &mut D, value: u64) -> Result<(), PmFault>
 
 // Lays the superblock out, but for the magic.
 fn lay_head<D: Pm>(dev: &mut D, pages: u64, inodes: u64) -> Result<(), PmFault>
-    requires { 42 * 512 ≤ length (D.words dev.old) }
+    requires { FREE_PAGE * PAGE_WORDS ≤ length (D.words dev.old) }
     ensures only { Lays IsHeadWord (D.words dev.old) (D.words dev.new) (D.told dev.old) (D.told dev.new) }
     ensures laid { OnOk result (Laid IsHeadWord (format_word pages inodes) (D.words dev.new) (D.told dev.old) (D.told dev.new)) }
     ensures cause { HasCause (D.faults dev.old) (D.faults dev.new) result }
@@ -63,31 +58,31 @@ fn lay_head<D: Pm>(dev: &mut D, pages: u64, inodes: u64) -> Result<(), PmFault>
 
 // Shuts both gates of the redo record.
 fn lay_gates<D: Pm>(dev: &mut D) -> Result<(), PmFault>
-    requires { 42 * 512 ≤ length (D.words dev.old) }
+    requires { FREE_PAGE * PAGE_WORDS ≤ length (D.words dev.old) }
     ensures only { Lays IsGate (D.words dev.old) (D.words dev.new) (D.told dev.old) (D.told dev.new) }
     ensures laid { OnOk result (Laid IsGate (λ _. 0) (D.words dev.new) (D.told dev.old) (D.told dev.new)) }
     ensures cause { HasCause (D.faults dev.old) (D.faults dev.new) result }
 {
-    lay(dev, 512, &[0])?;
-    lay(dev, 527, &[0])
+    lay(dev, LONG_GATE, &[0])?;
+    lay(dev, SHORT_GATE, &[0])
 }
 
 // Lays the tables out, and the pages of the inodes and the headers.
 fn lay_tables<D: Pm>(dev: &mut D, pages: u64, inodes: u64) -> Result<(), PmFault>
-    requires { 42 * 512 ≤ length (D.words dev.old) }
+    requires { FREE_PAGE * PAGE_WORDS ≤ length (D.words dev.old) }
     ensures only { Lays IsTableWord (D.words dev.old) (D.words dev.new) (D.told dev.old) (D.told dev.new) }
     ensures laid { OnOk result (Laid IsTableWord (format_word pages inodes) (D.words dev.new) (D.told dev.old) (D.told dev.new)) }
     ensures cause { HasCause (D.faults dev.old) (D.faults dev.new) result }
 {
     for page in ROOT_PAGE..FREE_PAGE {
-        lay(dev, page * 512, &page_words(page, pages, inodes))?;
+        lay(dev, page * PAGE_WORDS, &page_words(page, pages, inodes))?;
     }
     Ok(())
 }
 
 // Lays all out but the magic, and waits until it lasts.
 fn lay_out<D: Pm>(dev: &mut D, pages: u64, inodes: u64) -> Result<(), PmFault>
-    requires room { 42 * 512 ≤ length (D.words dev.old) }
+    requires room { FREE_PAGE * PAGE_WORDS ≤ length (D.words dev.old) }
     requires settled { NothingPending (D.told dev.old) }
     ensures only { Lays IsLaidOut (D.words dev.old) (D.words dev.new) (D.told dev.old) (D.told dev.new) }
     ensures words { OnOk result (HasWords pages inodes (D.words dev.new)) }
@@ -102,11 +97,11 @@ fn lay_out<D: Pm>(dev: &mut D, pages: u64, inodes: u64) -> Result<(), PmFault>
 
 // Makes the image: no word 0 has the magic before all else lasts.
 fn write_image<D: Pm>(dev: &mut D, pages: u64, inodes: u64) -> Result<(), PmFault>
-    requires least { 256 ≤ pages }
-    requires most { pages ≤ 262144 }
-    requires size { length (D.words dev.old) ≡ 512 * pages }
-    requires two { 2 ≤ inodes }
-    requires few { inodes ≤ 1048576 }
+    requires least { LEAST_PAGES ≤ pages }
+    requires most { pages ≤ MOST_PAGES }
+    requires size { length (D.words dev.old) ≡ PAGE_WORDS * pages }
+    requires two { LEAST_INODES ≤ inodes }
+    requires few { inodes ≤ MOST_INODES }
     requires settled { NothingPending (D.told dev.old) }
     ensures formatted { OnOk result (IsFormatted (D.words dev.new) pages inodes) }
     ensures settled { OnOk result (NothingPending (D.told dev.new)) }
@@ -123,12 +118,12 @@ fn write_image<D: Pm>(dev: &mut D, pages: u64, inodes: u64) -> Result<(), PmFaul
 
 // The pages that the image of an empty tree leaves free.
 fn free_pages(alloc: Global, pages: u64) -> Result<Frames, NoMemory>
-    requires least { 256 ≤ pages }
-    requires most { pages ≤ 262144 }
-    ensures { IfOk result (λ frames. frames ≡ record { pages = pages; free = rising (pages - 42) 42 }) }
+    requires least { LEAST_PAGES ≤ pages }
+    requires most { pages ≤ MOST_PAGES }
+    ensures { IfOk result (λ frames. frames ≡ record { pages = pages; free = rising (pages - FREE_PAGE) FREE_PAGE }) }
 {
     let mut frames = Frames::new(alloc, pages)?;
-    for page in ROOT_PAGE + 1..FREE_PAGE {
+    for page in FIRST_PAGE..FREE_PAGE {
         frames.mark(Page::new(page));
     }
     Ok(frames)
@@ -141,8 +136,8 @@ fn free_pages(alloc: Global, pages: u64) -> Result<Frames, NoMemory>
 /// `Damage(0)` exactly where the device has fewer than 256 or more than 262,144 pages, `Memory` where memory ran out: then
 /// the device is as it was. `Fault` where the device failed.
 pub fn make_image<D: Pm>(alloc: Global, mut dev: D, inodes: u64) -> Result<Mounted<D>, NoMount<D>>
-    requires two { 2 ≤ inodes }
-    requires few { inodes ≤ 1048576 }
+    requires two { LEAST_INODES ≤ inodes }
+    requires few { inodes ≤ MOST_INODES }
     requires settled { NothingPending (D.told dev) }
     ensures made { IfOk result (λ made. IsNew (D.words made.dev) made.frames (D.page_count dev) inodes) }
     ensures settled { IfOk result (λ made. NothingPending (D.told made.dev)) }

@@ -2,8 +2,10 @@
 ghost use Rattle.std.specs.Prelude.{◌≡◌, ℕ, ◌+◌, ◌*◌, ◌<◌, length, slice_index};
 ghost use Rattle.ct_format.specs.Formatting.{format_word};
 
-/// The words of a page.
-pub const PAGE_WORDS: usize = 512;
+use ct_base::PAGE_WORDS;
+
+/// The words of a page, as the length of an array.
+const WORDS: usize = PAGE_WORDS as usize;
 
 // What a word gets: 0 where no line names it.
 #[tactic(auto, unfolding(crate::specs::Formatting::format_word))]
@@ -37,14 +39,14 @@ fn word_of(word: u64, pages: u64, inodes: u64) -> u64
 }
 
 /// The words of a page of the image, but for the magic.
-pub fn page_words(page: u64, pages: u64, inodes: u64) -> [u64; PAGE_WORDS]
+pub fn page_words(page: u64, pages: u64, inodes: u64) -> [u64; WORDS]
     requires { page < 64 }
-    ensures length { length result ≡ 512 }
-    ensures words { (k : ℕ) → k < 512 → slice_index result k ≡ format_word pages inodes (page * 512 + k) }
+    ensures length { length result ≡ PAGE_WORDS }
+    ensures words { (k : ℕ) → k < PAGE_WORDS → slice_index result k ≡ format_word pages inodes (page * PAGE_WORDS + k) }
 {
-    let mut words = [0; PAGE_WORDS];
-    for k in 0..PAGE_WORDS {
-        words[k] = word_of(page * 512 + k as u64, pages, inodes);
+    let mut words = [0; WORDS];
+    for k in 0..WORDS {
+        words[k] = word_of(page * PAGE_WORDS + k as u64, pages, inodes);
     }
     words
 }

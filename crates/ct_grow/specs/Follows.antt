@@ -1,6 +1,7 @@
 -- What growth asks of the wants that come after it.
 use Rattle.std.specs.Prelude.{◌≢◌, ℕ, ◌+◌, ◌*◌, ◌/◌, ◌<◌, ◌≤◌, ◌⊎◌, ◌++◌, List, [], ◌∷◌}
 use Rattle.ct_base.specs.declared.inode.Inode.{Inode}
+use Rattle.ct_base.specs.declared.layout.TheConstants.{NO_PARTITION, PAGE_BYTES}
 use Rattle.ct_base.specs.Inode.{Partition, IsPart, AreApart, part, part_bytes}
 use Rattle.ct_base.specs.Pieces.{pieces}
 use Rattle.ct_base.specs.Plan.{exchange_height, side_wants, stage, touched}
@@ -21,14 +22,14 @@ pub record IsWhole (f : Inode) (p : Partition) (want : Want) : Type 0 where
 
 -- The want may come after growth; one higher than what moves, or where there was no partition, may always.
 abbrev pub Follows : Inode → Partition → Want → Type 0
-Follows f p want = f.level ≢ 15 → want.height ≤ exchange_height f.level → IsWhole f p want
+Follows f p want = f.level ≢ NO_PARTITION → want.height ≤ exchange_height f.level → IsWhole f p want
 
 -- The want begins outside the range to which growth brings the old partition.
 abbrev pub IsElsewhere : Inode → Partition → Want → Type 0
-IsElsewhere f p want = f.level ≢ 15 → (want.at < p.base) ⊎ (p.base + part_bytes f.level ≤ want.at)
+IsElsewhere f p want = f.level ≢ NO_PARTITION → (want.at < p.base) ⊎ (p.base + part_bytes f.level ≤ want.at)
 
 -- The wants of a write to offsets of a partition, as they are there.
 abbrev pub write_asks : Partition → ℕ → ℕ → List Want
 write_asks p off len =
-    side_wants ((p.base + off) / 4096) (pieces ((p.base + off) / 4096) (stage (p.base + off) / 4096) (touched off len))
-    ++ record { height = 0; at = stage (p.base + off) / 4096 * 4096; len = touched off len * 4096 } ∷ []
+    side_wants ((p.base + off) / PAGE_BYTES) (pieces ((p.base + off) / PAGE_BYTES) (stage (p.base + off) / PAGE_BYTES) (touched off len))
+    ++ record { height = 0; at = stage (p.base + off) / PAGE_BYTES * PAGE_BYTES; len = touched off len * PAGE_BYTES } ∷ []

@@ -1,6 +1,7 @@
 -- What a crash may leave while an object grows.
-use Rattle.std.specs.Prelude.{◌≢◌, ℕ, ◌*◌, ◌/◌, ◌^◌, ◌≤◌, ◌⊎◌, List}
+use Rattle.std.specs.Prelude.{◌≢◌, ℕ, ◌*◌, ◌/◌, ◌≤◌, ◌⊎◌, List}
 use Rattle.ct_base.specs.declared.inode.Inode.{Inode}
+use Rattle.ct_base.specs.declared.layout.TheConstants.{PAGE_WORDS, PARTITION_SLOT, SLOT_PAGES}
 use Rattle.ct_base.specs.Inode.{Partition}
 use Rattle.ct_base.specs.Settled.{HasFewPairs, IsShut, Named, open_pairs}
 use Rattle.ct_base.specs.State.{SameState}
@@ -18,7 +19,7 @@ pub record AfterMove (words : List ℕ) (i : ℕ) (f : Inode) (p : Partition) (i
 
 -- the device word lies on no page from root slot 10 on
 abbrev pub IsSpare : List ℕ → ℕ → Type 0
-IsSpare img w = (q : ℕ) → 10 * 2 ^ 27 ≤ q → page_at img 4 q ≢ w / 512
+IsSpare img w = (q : ℕ) → PARTITION_SLOT * SLOT_PAGES ≤ q → page_at img 4 q ≢ w / PAGE_WORDS
 
 -- the record is lawful and short, names no word of a page from root slot 10 on, and the image settles to the words before the move
 -- or after it

@@ -17,8 +17,7 @@ ghost use Rattle.ct_grow.specs.Moments.{IsSpare};
 ghost use Rattle.ct_base.specs.Settled.{Named};
 
 use crate::parts::part_at;
-use crate::wants::NO_PART;
-use ct_base::{Inode, Vaddr};
+use ct_base::{Inode, NO_PARTITION, PAGE_BYTES, Vaddr};
 use ct_header::{release, take};
 use ct_inode::place;
 use ct_level::AnyPart;
@@ -48,11 +47,11 @@ fn move_headers<D: Pm>(
     requires maps { MapsAlike 1 (words_under draft.old) (drafted draft.old) }
     requires new { IsPart (record { base = base; level = level }) }
     requires new_there { AreThere (words_under draft.old) (record { base = base; level = level }) }
-    requires old { old.level ≢ 15 → IsPart (part old) × AreThere (words_under draft.old) (part old) }
+    requires old { old.level ≢ NO_PARTITION → IsPart (part old) × AreThere (words_under draft.old) (part old) }
     requires none { pairs_of draft.old ≡ [] }
     requires count { count_of draft.old ≡ 0 }
     ensures stand { OnOk result ((ps : List Partition) → StandFor (view (words_under draft.old)) ps → is_free ps (record { base = base; level = level }) ≡ true
-        → (old.level ≢ 15 → is_one ps old.level (number_of (part old)) ≡ true)
+        → (old.level ≢ NO_PARTITION → is_one ps old.level (number_of (part old)) ≡ true)
         → StandFor (view (drafted draft.new)) (parts_after old (record { base = base; level = level }) ps)) }
     ensures named { OnOk result (NamePlaces (words_under draft.old) (IsOnPaths old (record { base = base; level = level })) (pairs_of draft.new)) }
     ensures maps { OnOk result ((slot : ℕ) → MapsAlike slot (words_under draft.new) (drafted draft.new)) }
@@ -61,7 +60,7 @@ fn move_headers<D: Pm>(
     ensures cause { HasCause (faults_under draft.old) (faults_under draft.new) result }
 {
     take(draft, part_at(level, base))?;
-    if old.level == NO_PART {
+    if old.level == NO_PARTITION {
         return Ok(());
     }
     release(draft, part_of(old))?;
@@ -103,22 +102,22 @@ fn move_pages<D: Pm>(
 ) -> Result<(), PmFault>
     requires tables { AreTables (words_under draft.old) }
     requires after { AreTables (drafted draft.old) }
-    requires has { old.level ≢ 15 → HasOld (words_under draft.old) old (record { base = base; level = level }) }
+    requires has { old.level ≢ NO_PARTITION → HasOld (words_under draft.old) old (record { base = base; level = level }) }
     requires new { IsPart (record { base = base; level = level }) }
     requires leave { LeaveTables (words_under draft.old) (pairs_of draft.old) }
     requires count { count_of draft.old ≤ 22 }
-    ensures exchanged { OnOk result (Exchanged (drafted draft.old) (drafted draft.new) (old.base / 4096) (base / 4096) (pages_of old)) }
+    ensures exchanged { OnOk result (Exchanged (drafted draft.old) (drafted draft.new) (old.base / PAGE_BYTES) (base / PAGE_BYTES) (pages_of old)) }
     ensures spare { OnOk result ((w : ℕ) → Named (pairs_of draft.new) w → Named (pairs_of draft.old) w ⊎ IsSpare (words_under draft.old) w) }
     ensures more { OnOk result (count_of draft.old ≤ count_of draft.new) }
     ensures count { OnOk result (count_of draft.new ≤ 150) }
     ensures drafts { Drafts draft.old draft.new }
     ensures cause { HasCause (faults_under draft.old) (faults_under draft.new) result }
 {
-    if old.level == NO_PART {
+    if old.level == NO_PARTITION {
         return Ok(());
     }
     let pages = 8u64.pow(old.level as u32);
-    pswap(draft, old.base / 4096, base.get() / 4096, pages)?;
+    pswap(draft, old.base / PAGE_BYTES, base.get() / PAGE_BYTES, pages)?;
     Ok(())
 }
 

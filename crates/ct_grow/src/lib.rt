@@ -12,6 +12,8 @@ ghost use Rattle.ct_base.specs.Wants.{Want, missing};
 ghost use Rattle.ct_grow.specs.Follows.{Enlarges, Follows};
 ghost use Rattle.ct_grow.specs.Grown.{CellsMoved};
 
+use ct_base::NO_PARTITION;
+
 mod draft;
 mod grow;
 mod parts;
@@ -22,5 +24,5 @@ pub use wants::{Wants, growth_wants};
 
 /// What is missing after growth and what growth took are together what was counted on the image before it.
 pub fn growth_is_counted()
-    ensures { (old new : List ℕ) → (f : Inode) → (p : Partition) → (ws : List Want) → CellsMoved old new f p → (f.level ≢ 15 → Enlarges f p) → All (Follows f p) ws → missing new ws + missing old (growth_wants f p) ≡ missing old (growth_wants f p ++ map (counted f p) ws) }
+    ensures { (old new : List ℕ) → (f : Inode) → (p : Partition) → (ws : List Want) → CellsMoved old new f p → (f.level ≢ NO_PARTITION → Enlarges f p) → All (Follows f p) ws → missing new ws + missing old (growth_wants f p) ≡ missing old (growth_wants f p ++ map (counted f p) ws) }
 {}

@@ -7,7 +7,7 @@ ghost use Rattle.ct_base.specs.View.{view};
 ghost use Rattle.ct_base.specs.Walk.{AreTables};
 ghost use Rattle.ct_level.specs.Any.{partition};
 
-use ct_base::Vaddr;
+use ct_base::{TOP_LEVEL, Vaddr};
 use ct_header::pick;
 use ct_level::AnyPart;
 use ct_pm::Pm;
@@ -26,7 +26,7 @@ pub fn part_at(level: u32, base: Vaddr) -> AnyPart
 /// The base of the first free partition of a level, where one is free.
 pub fn first_base<D: Pm>(dev: &D, level: u32) -> Vaddr
     requires tables { AreTables (D.words dev.now) }
-    requires level { level ≤ 9 }
+    requires level { level ≤ TOP_LEVEL }
     requires some { (ps : List Partition) × StandFor (view (D.words dev.now)) ps × (free_parts ps level ≢ []) }
     ensures part { IsPart (record { base = result; level = level }) }
     ensures first { (ps : List Partition) → StandFor (view (D.words dev.now)) ps → first_of (free_parts ps level) ≡ record { base = result; level = level } }

@@ -1,16 +1,13 @@
 // The tables and pages that growth asks for.
-ghost use Rattle.std.specs.Prelude.{◌≡◌, ◌≢◌, ◌+◌, ◌*◌, ◌^◌, ◌<◌, ◌≤◌, [], ◌∷◌, ◌++◌, length};
+ghost use Rattle.std.specs.Prelude.{◌≡◌, ◌≢◌, ◌+◌, ◌*◌, ◌<◌, ◌≤◌, [], ◌∷◌, ◌++◌, length};
 ghost use Rattle.ct_base.specs.Inode.{IsPart, part};
 ghost use Rattle.ct_base.specs.Plan.{growth_wants as wants_of, header_wants};
 
 use crate::parts::part_at;
-use ct_base::{Inode, Vaddr};
+use ct_base::{ADDRESS_END, Inode, NO_PARTITION, Vaddr};
 use ct_header::words;
 use ct_walk::Want;
 use std::marker::Model;
-
-/// The level of an inode that has no partition.
-pub const NO_PART: u64 = 15;
 
 /// At most sixteen wants, seen as their list: growth has twelve at most, and what comes after it four.
 #[derive(Drop)]
@@ -61,7 +58,7 @@ impl Wants {
 // A want at one address.
 fn want_at(height: u32, at: u64) -> Want
     requires height { height ≤ 4 }
-    requires high { at < 2 ^ 48 }
+    requires high { at < ADDRESS_END }
     ensures { result ≡ record { height = height; at = at; len = 1 } }
 {
     match Vaddr::new(at) {
@@ -87,12 +84,12 @@ fn header_pages(level: u32, base: Vaddr) -> Wants
 /// and for an old partition a table at either base, between whose entries it moves.
 pub fn growth_wants(old: Inode, level: u32, base: Vaddr) -> Wants
     requires new { IsPart (record { base = base; level = level }) }
-    requires old { old.level ≢ 15 → IsPart (part old) }
+    requires old { old.level ≢ NO_PARTITION → IsPart (part old) }
     ensures wants { result ≡ wants_of old (record { base = base; level = level }) }
     ensures few { length result ≤ 12 }
 {
     let mut wants = header_pages(level, base);
-    if old.level == NO_PART {
+    if old.level == NO_PARTITION {
         return wants;
     }
     let height = old.level as u32 / 3 + 1;

@@ -1,5 +1,6 @@
 -- What a mount answers, and what it leaves of a device.
 use Rattle.std.specs.Prelude.{◌≡◌, ℕ, ◌/◌, List, Option, Some, None, slice_index}
+use Rattle.ct_base.specs.declared.layout.TheConstants.{LONG_GATE, PAGE_WORDS}
 use Rattle.ct_base.specs.Free.{IsFilePage}
 use Rattle.ct_base.specs.Head.{HasHead}
 use Rattle.ct_base.specs.Rules.{FailsFirst, Rule, Sound, number}
@@ -42,7 +43,7 @@ pub record IsSettledFrom (was now : List ℕ) (told : Option History) : Type 0 w
 
 -- where the word lies on a page of a live file of what the image settles to, one of the pairs names it
 abbrev pub SparesBut : List Pair → List ℕ → ℕ → ℕ → Type 0
-SparesBut pairs image word value = IsFilePage (settled image) (word / 512) → Named pairs word
+SparesBut pairs image word value = IsFilePage (settled image) (word / PAGE_WORDS) → Named pairs word
 
 -- A recovery of words that land on a tree, whether it came to its end or stopped on the way.
 pub record Recovers (t : Tree) (was : List ℕ) (from to : Option History) (now : List ℕ) : Type 0 where
@@ -52,4 +53,4 @@ pub record Recovers (t : Tree) (was : List ℕ) (from to : Option History) (now 
   -- a step stores on a page of a live file only what a pair of the open record names
   pub stores : StoresOver (SparesBut (open_pairs was)) from to
   -- where no such pair names one, no step stores on one, nor will any that replays what a crash leaves
-  pub spares : SparesReplay was → Phase (λ image. Lands image t) (slice_index was 512) from to now
+  pub spares : SparesReplay was → Phase (λ image. Lands image t) (slice_index was LONG_GATE) from to now

@@ -1,6 +1,7 @@
 -- Slots that were met on a device.
 use Rattle.std.specs.Prelude.{◌≡◌, ℕ, ◌+◌, ◌*◌, ◌/◌, ◌%◌, ◌<◌, ◌≤◌, List, length}
 use Rattle.ct_base.specs.declared.inode.Inode.{Inode}
+use Rattle.ct_base.specs.declared.layout.TheConstants.{ENTRY_BYTES, ENTRY_WORDS}
 use Rattle.ct_base.specs.Inode.{little}
 use Rattle.ct_base.specs.Objects.{Object}
 use Rattle.ct_base.specs.Slots.{IsSlot}
@@ -14,13 +15,13 @@ use Rattle.ct_naming.specs.declared.slot.Slot.{Slot}
 -- the device words from a place on are those of a slot that is used
 pub record Stands (img : List ℕ) (f : Object) (o place : ℕ) : Type 0 where
   pub slot : IsSlot f o
-  pub inside : place + 32 ≤ length img
-  pub words : (k : ℕ) → k < 32 → word img (place + k) ≡ little f.at (o + 8 * k) 8
+  pub inside : place + ENTRY_WORDS ≤ length img
+  pub words : (k : ℕ) → k < ENTRY_WORDS → word img (place + k) ≡ little f.at (o + 8 * k) 8
 
 -- no slot from an offset on is used, up to another
 pub record Skips (f : Object) (o next : ℕ) : Type 0 where
   pub on : o < next
-  pub aligned : next % 256 ≡ 0
+  pub aligned : next % ENTRY_BYTES ≡ 0
   pub empty : AreEmpty f o next
 
 abbrev pub Finds : List ℕ → Inode → ℕ → Look → Type 0

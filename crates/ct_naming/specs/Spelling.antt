@@ -1,6 +1,7 @@
 -- The names in a directory, as a list.
 use Rattle.std.specs.Prelude.{◌≡◌, ◌≢◌, ℕ, ◌+◌, ◌*◌, ◌<◌, ◌≤◌, ◌==◌, Bool, List, length, slice_index, slice_index_or, Contains, All}
 use Rattle.std.specs.List.{IsDistinct}
+use Rattle.ct_base.specs.declared.layout.TheConstants.{ENTRY_WORDS}
 use Rattle.ct_base.specs.Inode.{little}
 use Rattle.ct_base.specs.Objects.{Object}
 use Rattle.ct_base.specs.Slots.{IsSlot, slot_length, slot_name}
@@ -9,9 +10,9 @@ use Rattle.ct_naming.specs.declared.spelled.Spelled.{Spelled}
 -- the words are the length of the name in the slot at the offset, and the words that hold the name
 pub record IsSpelled (f : Object) (s : Spelled) : Type 0 where
   pub slot : IsSlot f s.offset
-  pub size : length s.words ≡ 32
+  pub size : length s.words ≡ ENTRY_WORDS
   pub first : slice_index s.words 0 ≡ slot_length f s.offset
-  pub others : (k : ℕ) → 1 ≤ k → k < 32 → slice_index s.words k ≡ little f.at (s.offset + 8 * k) 8
+  pub others : (k : ℕ) → 1 ≤ k → k < ENTRY_WORDS → slice_index s.words k ≡ little f.at (s.offset + 8 * k) 8
 
 -- the list has the name of the slot at an offset
 pub record HasSpelled (xs : List Spelled) (o : ℕ) : Type 0 where

@@ -10,7 +10,7 @@ ghost use Rattle.ct_naming.specs.Naming.{Counts};
 ghost use Rattle.ct_naming.specs.Slots.{Meets};
 
 use crate::slot::{Slot, next_slot};
-use ct_base::{Inode, NoMemory};
+use ct_base::{DIRECTORY_KIND, ENTRY_BYTES, ENTRY_WORDS, Inode, MOST_INODES, MOST_PAGES, NoMemory};
 use ct_inode::get;
 use ct_marks::{has_mark, no_marks, set_mark};
 use ct_pm::Pm;
@@ -18,7 +18,7 @@ use std::alloc::Global;
 
 /// The inode that a slot names.
 pub fn child_of<D: Pm>(dev: &D, slot: Slot) -> u64
-    requires inside { slot.place + 32 ≤ length (D.words dev.now) }
+    requires inside { slot.place + ENTRY_WORDS ≤ length (D.words dev.now) }
     ensures { result ≡ word (D.words dev.now) slot.place % 4294967296 }
 {
     dev.load(slot.place) % (1 << 32)
@@ -26,7 +26,7 @@ pub fn child_of<D: Pm>(dev: &D, slot: Slot) -> u64
 
 /// Marks the inode that a slot of directory `n` names, unless it is inode 1 or has a mark.
 fn mark_child<D: Pm>(dev: &D, n: u64, dir: Inode, slot: Slot, marks: &mut Vec<u8>) -> bool
-    requires few { inode_count (D.words dev.now) ≤ 1048576 }
+    requires few { inode_count (D.words dev.now) ≤ MOST_INODES }
     requires number { IsNumber (inode_count (D.words dev.now)) n }
     requires dir { dir ≡ inode (view (D.words dev.now)) n }
     requires entries { AreEntries (objects (view (D.words dev.now)) (inode_count (D.words dev.now))) }
@@ -34,7 +34,7 @@ fn mark_child<D: Pm>(dev: &D, n: u64, dir: Inode, slot: Slot, marks: &mut Vec<u8
     requires length { length marks.old.items ≡ inode_count (D.words dev.now) + 1 }
     ensures length { length marks.new.items ≡ inode_count (D.words dev.now) + 1 }
     ensures counts { IsTrue result → (at : ℕ) → Meets (D.words dev.now) dir at slot → Counts (objects (view (D.words dev.now)) (inode_count (D.words dev.now))) n at marks.old.items
-        → Counts (objects (view (D.words dev.now)) (inode_count (D.words dev.now))) n (slot.offset + 256) marks.new.items }
+        → Counts (objects (view (D.words dev.now)) (inode_count (D.words dev.now))) n (slot.offset + ENTRY_BYTES) marks.new.items }
     ensures fails { result ≡ false → (at : ℕ) → Meets (D.words dev.now) dir at slot → Counts (objects (view (D.words dev.now)) (inode_count (D.words dev.now))) n at marks.old.items
         → AreNamed (objects (view (D.words dev.now)) (inode_count (D.words dev.now))) → ⊥ }
 {
@@ -52,11 +52,11 @@ fn mark_child<D: Pm>(dev: &D, n: u64, dir: Inode, slot: Slot, marks: &mut Vec<u8
 /// Marks the inodes that the slots of directory `n` name, as long as each is named for the first time.
 fn mark_children<D: Pm>(dev: &D, n: u64, dir: Inode, marks: &mut Vec<u8>) -> bool
     requires tables { AreTables (D.words dev.now) }
-    requires pages { page_count (D.words dev.now) ≤ 262144 }
-    requires few { inode_count (D.words dev.now) ≤ 1048576 }
+    requires pages { page_count (D.words dev.now) ≤ MOST_PAGES }
+    requires few { inode_count (D.words dev.now) ≤ MOST_INODES }
     requires number { IsNumber (inode_count (D.words dev.now)) n }
     requires dir { dir ≡ inode (view (D.words dev.now)) n }
-    requires kind { dir.kind ≡ 2 }
+    requires kind { dir.kind ≡ DIRECTORY_KIND }
     requires placed { ArePlaced (view (D.words dev.now)) (inode_count (D.words dev.now)) }
     requires entries { AreEntries (objects (view (D.words dev.now)) (inode_count (D.words dev.now))) }
     requires length { length marks.old.items ≡ inode_count (D.words dev.now) + 1 }
@@ -71,7 +71,7 @@ fn mark_children<D: Pm>(dev: &D, n: u64, dir: Inode, marks: &mut Vec<u8>) -> boo
         if !mark_child(dev, n, dir, slot, marks) {
             return false;
         }
-        at = slot.offset + 256;
+        at = slot.offset + ENTRY_BYTES;
     }
     true
 }
@@ -79,8 +79,8 @@ fn mark_children<D: Pm>(dev: &D, n: u64, dir: Inode, marks: &mut Vec<u8>) -> boo
 /// The same of any inode, which has no slots where it is no directory.
 fn mark_named<D: Pm>(dev: &D, n: u64, marks: &mut Vec<u8>) -> bool
     requires tables { AreTables (D.words dev.now) }
-    requires pages { page_count (D.words dev.now) ≤ 262144 }
-    requires few { inode_count (D.words dev.now) ≤ 1048576 }
+    requires pages { page_count (D.words dev.now) ≤ MOST_PAGES }
+    requires few { inode_count (D.words dev.now) ≤ MOST_INODES }
     requires number { IsNumber (inode_count (D.words dev.now)) n }
     requires placed { ArePlaced (view (D.words dev.now)) (inode_count (D.words dev.now)) }
     requires entries { AreEntries (objects (view (D.words dev.now)) (inode_count (D.words dev.now))) }
@@ -92,7 +92,7 @@ fn mark_named<D: Pm>(dev: &D, n: u64, marks: &mut Vec<u8>) -> bool
         → AreNamed (objects (view (D.words dev.now)) (inode_count (D.words dev.now))) → ⊥ }
 {
     let dir = get(dev, n);
-    if dir.kind != 2 {
+    if dir.kind != DIRECTORY_KIND {
         return true;
     }
     mark_children(dev, n, dir, marks)
@@ -101,8 +101,8 @@ fn mark_named<D: Pm>(dev: &D, n: u64, marks: &mut Vec<u8>) -> bool
 /// Marks the inodes that the slots of all directories name, as long as each is named for the first time.
 fn mark_all<D: Pm>(dev: &D, marks: &mut Vec<u8>) -> bool
     requires tables { AreTables (D.words dev.now) }
-    requires pages { page_count (D.words dev.now) ≤ 262144 }
-    requires few { inode_count (D.words dev.now) ≤ 1048576 }
+    requires pages { page_count (D.words dev.now) ≤ MOST_PAGES }
+    requires few { inode_count (D.words dev.now) ≤ MOST_INODES }
     requires placed { ArePlaced (view (D.words dev.now)) (inode_count (D.words dev.now)) }
     requires entries { AreEntries (objects (view (D.words dev.now)) (inode_count (D.words dev.now))) }
     requires length { length marks.old.items ≡ inode_count (D.words dev.now) + 1 }
@@ -122,7 +122,7 @@ fn mark_all<D: Pm>(dev: &D, marks: &mut Vec<u8>) -> bool
 /// Whether each live inode from a number on has a mark.
 pub fn are_marked<D: Pm>(dev: &D, from: u64, marks: &Vec<u8>) -> bool
     requires tables { AreTables (D.words dev.now) }
-    requires few { inode_count (D.words dev.now) ≤ 1048576 }
+    requires few { inode_count (D.words dev.now) ≤ MOST_INODES }
     requires from { 1 ≤ from }
     requires length { length marks.now.items ≡ inode_count (D.words dev.now) + 1 }
     ensures { IsTrue result ↔ ((c : ℕ) → from ≤ c → c ≤ inode_count (D.words dev.now) → (inode (view (D.words dev.now)) c).kind ≢ 0 → is_marked marks.now.items c ≡ true) }
@@ -138,8 +138,8 @@ pub fn are_marked<D: Pm>(dev: &D, from: u64, marks: &Vec<u8>) -> bool
 /// Mount rule 19.
 pub fn are_named<D: Pm>(alloc: Global, dev: &D) -> Result<bool, NoMemory>
     requires tables { AreTables (D.words dev.now) }
-    requires pages { page_count (D.words dev.now) ≤ 262144 }
-    requires few { inode_count (D.words dev.now) ≤ 1048576 }
+    requires pages { page_count (D.words dev.now) ≤ MOST_PAGES }
+    requires few { inode_count (D.words dev.now) ≤ MOST_INODES }
     requires placed { ArePlaced (view (D.words dev.now)) (inode_count (D.words dev.now)) }
     requires entries { AreEntries (objects (view (D.words dev.now)) (inode_count (D.words dev.now))) }
     ensures { IfOk result (λ ok. IsTrue ok ↔ AreNamed (objects (view (D.words dev.now)) (inode_count (D.words dev.now)))) }

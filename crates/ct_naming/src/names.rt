@@ -14,8 +14,8 @@ ghost use Rattle.ct_naming.specs.Slots.{Stands};
 ghost use Rattle.ct_naming.specs.Spelling.{AreNeighboursApart, AreSpelled, AreSlotsApart, IsSpelled};
 
 use crate::slot::{Slot, next_slot};
-use crate::spelled::Spelled;
-use ct_base::{Inode, NoMemory};
+use crate::spelled::{SLOT_WORDS, Spelled};
+use ct_base::{DIRECTORY_KIND, ENTRY_BYTES, Inode, MOST_INODES, MOST_PAGES, NoMemory};
 use ct_inode::get;
 use ct_pm::Pm;
 use std::alloc::Global;
@@ -26,9 +26,9 @@ fn spelled<D: Pm>(dev: &D, dir: Inode, slot: Slot) -> Spelled
     ensures offset { result.offset ≡ slot.offset }
     ensures spelled { IsSpelled (dir_of (D.words dev.now) dir) result }
 {
-    let mut words = [0; 32];
+    let mut words = [0; SLOT_WORDS];
     words[0] = dev.load(slot.place) / (1 << 32);
-    for k in 1..32 {
+    for k in 1..SLOT_WORDS {
         words[k] = dev.load(slot.place + k as u64);
     }
     Spelled {
@@ -40,8 +40,8 @@ fn spelled<D: Pm>(dev: &D, dir: Inode, slot: Slot) -> Spelled
 /// The names in a directory, by rising offset of their slots.
 fn names_of<D: Pm>(alloc: Global, dev: &D, dir: Inode) -> Result<Vec<Spelled>, NoMemory>
     requires tables { AreTables (D.words dev.now) }
-    requires pages { page_count (D.words dev.now) ≤ 262144 }
-    requires kind { dir.kind ≡ 2 }
+    requires pages { page_count (D.words dev.now) ≤ MOST_PAGES }
+    requires kind { dir.kind ≡ DIRECTORY_KIND }
     requires placed { IsPlaced dir }
     ensures { IfOk result (λ names. AreSpelled (dir_of (D.words dev.now) dir) names.items) }
 {
@@ -52,7 +52,7 @@ fn names_of<D: Pm>(alloc: Global, dev: &D, dir: Inode) -> Result<Vec<Spelled>, N
             Ok(()) => {}
             Err(_) => return Err(NoMemory),
         }
-        at = slot.offset + 256;
+        at = slot.offset + ENTRY_BYTES;
     }
     Ok(names)
 }
@@ -60,14 +60,14 @@ fn names_of<D: Pm>(alloc: Global, dev: &D, dir: Inode) -> Result<Vec<Spelled>, N
 /// The names in a directory in the order of their words.
 fn sorted_names<D: Pm>(alloc: Global, dev: &D, dir: Inode) -> Result<Vec<Spelled>, NoMemory>
     requires tables { AreTables (D.words dev.now) }
-    requires pages { page_count (D.words dev.now) ≤ 262144 }
-    requires kind { dir.kind ≡ 2 }
+    requires pages { page_count (D.words dev.now) ≤ MOST_PAGES }
+    requires kind { dir.kind ≡ DIRECTORY_KIND }
     requires placed { IsPlaced dir }
     ensures names { IfOk result (λ names. AreSpelled (dir_of (D.words dev.now) dir) names.items) }
     ensures sorted { IfOk result (λ names. IsSortedByKey (λ name. name.words) (slice_cmp nat_cmp) names.items) }
 {
     let mut names = names_of(alloc, dev, dir)?;
-    let words = |name: &Spelled| -> [u64; 32]
+    let words = |name: &Spelled| -> [u64; SLOT_WORDS]
         ensures { result ≡ name.now.words }
     { name.words };
     names.sort_unstable_by_key(words);
@@ -89,15 +89,15 @@ fn are_neighbours_apart(names: &Vec<Spelled>) -> bool
 /// Whether the slots of inode `n` have different names.
 fn are_slots_apart<D: Pm>(alloc: Global, dev: &D, n: u64) -> Result<bool, NoMemory>
     requires tables { AreTables (D.words dev.now) }
-    requires pages { page_count (D.words dev.now) ≤ 262144 }
-    requires few { inode_count (D.words dev.now) ≤ 1048576 }
+    requires pages { page_count (D.words dev.now) ≤ MOST_PAGES }
+    requires few { inode_count (D.words dev.now) ≤ MOST_INODES }
     requires number { IsNumber (inode_count (D.words dev.now)) n }
     requires placed { ArePlaced (view (D.words dev.now)) (inode_count (D.words dev.now)) }
     requires entries { AreEntries (objects (view (D.words dev.now)) (inode_count (D.words dev.now))) }
     ensures { IfOk result (λ ok. IsTrue ok ↔ AreSlotsApart (objects (view (D.words dev.now)) (inode_count (D.words dev.now)) n)) }
 {
     let dir = get(dev, n);
-    if dir.kind != 2 {
+    if dir.kind != DIRECTORY_KIND {
         return Ok(true);
     }
     let names = sorted_names(alloc, dev, dir)?;
@@ -107,8 +107,8 @@ fn are_slots_apart<D: Pm>(alloc: Global, dev: &D, n: u64) -> Result<bool, NoMemo
 /// Mount rule 18.
 pub fn are_names_apart<D: Pm>(alloc: Global, dev: &D) -> Result<bool, NoMemory>
     requires tables { AreTables (D.words dev.now) }
-    requires pages { page_count (D.words dev.now) ≤ 262144 }
-    requires few { inode_count (D.words dev.now) ≤ 1048576 }
+    requires pages { page_count (D.words dev.now) ≤ MOST_PAGES }
+    requires few { inode_count (D.words dev.now) ≤ MOST_INODES }
     requires placed { ArePlaced (view (D.words dev.now)) (inode_count (D.words dev.now)) }
     requires entries { AreEntries (objects (view (D.words dev.now)) (inode_count (D.words dev.now))) }
     ensures { IfOk result (λ ok. IsTrue ok ↔ AreNamesApart (objects (view (D.words dev.now)) (inode_count (D.words dev.now)))) }

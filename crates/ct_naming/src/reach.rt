@@ -10,7 +10,7 @@ ghost use Rattle.ct_naming.specs.Visits.{Visits, unmarked};
 
 use crate::named::{are_marked, child_of};
 use crate::slot::{Slot, next_slot};
-use ct_base::{Inode, NoMemory};
+use ct_base::{DIRECTORY_KIND, ENTRY_BYTES, Inode, MOST_INODES, MOST_PAGES, NoMemory};
 use ct_inode::get;
 use ct_marks::{has_mark, no_marks, set_mark};
 use ct_pm::Pm;
@@ -28,7 +28,7 @@ fn reach_child<D: Pm>(
     marks: &mut Vec<u8>,
     visit: &mut Vec<u64>,
 ) -> Result<(), NoMemory>
-    requires few { inode_count (D.words dev.now) ≤ 1048576 }
+    requires few { inode_count (D.words dev.now) ≤ MOST_INODES }
     requires number { IsNumber (inode_count (D.words dev.now)) n }
     requires dir { dir ≡ inode (view (D.words dev.now)) n }
     requires entries { AreEntries (objects (view (D.words dev.now)) (inode_count (D.words dev.now))) }
@@ -37,7 +37,7 @@ fn reach_child<D: Pm>(
     ensures length { length marks.new.items ≡ inode_count (D.words dev.now) + 1 }
     ensures visits { OnOk result ((at : ℕ) → Meets (D.words dev.now) dir at slot
         → Visits (objects (view (D.words dev.now)) (inode_count (D.words dev.now))) n at marks.old.items visit.old.items
-        → Visits (objects (view (D.words dev.now)) (inode_count (D.words dev.now))) n (slot.offset + 256) marks.new.items visit.new.items) }
+        → Visits (objects (view (D.words dev.now)) (inode_count (D.words dev.now))) n (slot.offset + ENTRY_BYTES) marks.new.items visit.new.items) }
     ensures less { OnOk result (2 * unmarked marks.new.items (inode_count (D.words dev.now) + 1) + length visit.new.items
         ≤ 2 * unmarked marks.old.items (inode_count (D.words dev.now) + 1) + length visit.old.items) }
 {
@@ -61,11 +61,11 @@ fn reach_children<D: Pm>(
     visit: &mut Vec<u64>,
 ) -> Result<(), NoMemory>
     requires tables { AreTables (D.words dev.now) }
-    requires pages { page_count (D.words dev.now) ≤ 262144 }
-    requires few { inode_count (D.words dev.now) ≤ 1048576 }
+    requires pages { page_count (D.words dev.now) ≤ MOST_PAGES }
+    requires few { inode_count (D.words dev.now) ≤ MOST_INODES }
     requires number { IsNumber (inode_count (D.words dev.now)) n }
     requires dir { dir ≡ inode (view (D.words dev.now)) n }
-    requires kind { dir.kind ≡ 2 }
+    requires kind { dir.kind ≡ DIRECTORY_KIND }
     requires placed { ArePlaced (view (D.words dev.now)) (inode_count (D.words dev.now)) }
     requires entries { AreEntries (objects (view (D.words dev.now)) (inode_count (D.words dev.now))) }
     requires length { length marks.old.items ≡ inode_count (D.words dev.now) + 1 }
@@ -78,7 +78,7 @@ fn reach_children<D: Pm>(
     let mut at = 0;
     while let Some(slot) = next_slot(dev, dir, at) {
         reach_child(dev, n, dir, slot, marks, visit)?;
-        at = slot.offset + 256;
+        at = slot.offset + ENTRY_BYTES;
     }
     Ok(())
 }
@@ -91,8 +91,8 @@ fn visit_one<D: Pm>(
     visit: &mut Vec<u64>,
 ) -> Result<(), NoMemory>
     requires tables { AreTables (D.words dev.now) }
-    requires pages { page_count (D.words dev.now) ≤ 262144 }
-    requires few { inode_count (D.words dev.now) ≤ 1048576 }
+    requires pages { page_count (D.words dev.now) ≤ MOST_PAGES }
+    requires few { inode_count (D.words dev.now) ≤ MOST_INODES }
     requires number { IsNumber (inode_count (D.words dev.now)) n }
     requires placed { ArePlaced (view (D.words dev.now)) (inode_count (D.words dev.now)) }
     requires entries { AreEntries (objects (view (D.words dev.now)) (inode_count (D.words dev.now))) }
@@ -104,7 +104,7 @@ fn visit_one<D: Pm>(
         ≤ 2 * unmarked marks.old.items (inode_count (D.words dev.now) + 1) + length visit.old.items) }
 {
     let dir = get(dev, n);
-    if dir.kind != 2 {
+    if dir.kind != DIRECTORY_KIND {
         return Ok(());
     }
     reach_children(dev, n, dir, marks, visit)
@@ -113,9 +113,9 @@ fn visit_one<D: Pm>(
 /// Visits the inodes that are listed, and all that are reached from them.
 fn reach_all<D: Pm>(dev: &D, marks: &mut Vec<u8>, visit: &mut Vec<u64>) -> Result<(), NoMemory>
     requires tables { AreTables (D.words dev.now) }
-    requires pages { page_count (D.words dev.now) ≤ 262144 }
+    requires pages { page_count (D.words dev.now) ≤ MOST_PAGES }
     requires least { 1 ≤ inode_count (D.words dev.now) }
-    requires few { inode_count (D.words dev.now) ≤ 1048576 }
+    requires few { inode_count (D.words dev.now) ≤ MOST_INODES }
     requires placed { ArePlaced (view (D.words dev.now)) (inode_count (D.words dev.now)) }
     requires entries { AreEntries (objects (view (D.words dev.now)) (inode_count (D.words dev.now))) }
     requires length { length marks.old.items ≡ inode_count (D.words dev.now) + 1 }
@@ -132,9 +132,9 @@ fn reach_all<D: Pm>(dev: &D, marks: &mut Vec<u8>, visit: &mut Vec<u64>) -> Resul
 /// Mount rule 20.
 pub fn are_reached<D: Pm>(alloc: Global, dev: &D) -> Result<bool, NoMemory>
     requires tables { AreTables (D.words dev.now) }
-    requires pages { page_count (D.words dev.now) ≤ 262144 }
+    requires pages { page_count (D.words dev.now) ≤ MOST_PAGES }
     requires least { 1 ≤ inode_count (D.words dev.now) }
-    requires few { inode_count (D.words dev.now) ≤ 1048576 }
+    requires few { inode_count (D.words dev.now) ≤ MOST_INODES }
     requires placed { ArePlaced (view (D.words dev.now)) (inode_count (D.words dev.now)) }
     requires entries { AreEntries (objects (view (D.words dev.now)) (inode_count (D.words dev.now))) }
     ensures { IfOk result (λ ok. IsTrue ok ↔ AreReached (objects (view (D.words dev.now)) (inode_count (D.words dev.now)))) }

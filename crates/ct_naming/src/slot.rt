@@ -6,17 +6,11 @@ ghost use Rattle.ct_dir.specs.Directory.{AreEmpty, dir_of};
 ghost use Rattle.ct_dir.specs.Keys.{byte_of};
 ghost use Rattle.ct_naming.specs.Slots.{Finds, Meets};
 
-use ct_base::Inode;
+use ct_base::{DIRECTORY_KIND, ENTRY_BYTES, ENTRY_WORDS, Inode, MOST_PAGES, PAGE_BYTES};
 use ct_marks::are_zero;
 use ct_pm::Pm;
 use ct_walk::absent_from;
 use ct_words::place_of;
-
-/// The bytes of a slot.
-const SLOT_BYTES: u64 = 256;
-
-/// The words of a slot.
-const SLOT_WORDS: u64 = 32;
 
 /// A slot that is used.
 #[derive(Clone, Copy, Debug)]
@@ -40,22 +34,27 @@ pub enum Look {
 
 fn look_at<D: Pm>(dev: &D, dir: Inode, at: u64) -> Look
     requires tables { AreTables (D.words dev.now) }
-    requires pages { page_count (D.words dev.now) ≤ 262144 }
-    requires kind { dir.kind ≡ 2 }
+    requires pages { page_count (D.words dev.now) ≤ MOST_PAGES }
+    requires kind { dir.kind ≡ DIRECTORY_KIND }
     requires placed { IsPlaced dir }
-    requires aligned { at % 256 ≡ 0 }
+    requires aligned { at % ENTRY_BYTES ≡ 0 }
     requires below { at < dir.size }
     ensures { Finds (D.words dev.now) dir at result }
 {
     let address = dir.base + at;
-    let page = address / 4096;
-    let absent = absent_from(dev, 4, page, (dir.base + dir.size + 4095) / 4096);
+    let page = address / PAGE_BYTES;
+    let absent = absent_from(
+        dev,
+        4,
+        page,
+        (dir.base + dir.size + (PAGE_BYTES - 1)) / PAGE_BYTES,
+    );
     if absent > 0 {
-        return Look::Empty((page + absent) * 4096 - dir.base);
+        return Look::Empty((page + absent) * PAGE_BYTES - dir.base);
     }
     let place = place_of(dev, address);
-    if are_zero(dev, place, place + SLOT_WORDS) {
-        return Look::Empty(at + SLOT_BYTES);
+    if are_zero(dev, place, place + ENTRY_WORDS) {
+        return Look::Empty(at + ENTRY_BYTES);
     }
     Look::Used(place)
 }
@@ -63,10 +62,10 @@ fn look_at<D: Pm>(dev: &D, dir: Inode, at: u64) -> Look
 /// The first slot from an offset on that is used.
 pub fn next_slot<D: Pm>(dev: &D, dir: Inode, from: u64) -> Option<Slot>
     requires tables { AreTables (D.words dev.now) }
-    requires pages { page_count (D.words dev.now) ≤ 262144 }
-    requires kind { dir.kind ≡ 2 }
+    requires pages { page_count (D.words dev.now) ≤ MOST_PAGES }
+    requires kind { dir.kind ≡ DIRECTORY_KIND }
     requires placed { IsPlaced dir }
-    requires aligned { from % 256 ≡ 0 }
+    requires aligned { from % ENTRY_BYTES ≡ 0 }
     ensures some { IfSome result (λ slot. Meets (D.words dev.now) dir from slot) }
     ensures none { IfNone result (AreEmpty (dir_of (D.words dev.now) dir) from dir.size) }
 {
@@ -82,8 +81,8 @@ pub fn next_slot<D: Pm>(dev: &D, dir: Inode, from: u64) -> Option<Slot>
 
 /// A byte of a slot.
 pub fn byte_in<D: Pm>(dev: &D, slot: Slot, k: u64) -> u8
-    requires inside { slot.place + 32 ≤ length (D.words dev.now) }
-    requires low { k < 256 }
+    requires inside { slot.place + ENTRY_WORDS ≤ length (D.words dev.now) }
+    requires low { k < ENTRY_BYTES }
     ensures { result ≡ byte_of (word (D.words dev.now) (slot.place + k / 8)) (k % 8) }
 {
     dev.load(slot.place + k / 8).to_le_bytes()[(k % 8) as usize]

@@ -1,6 +1,7 @@
 -- What one name leads to, and how far a walk along names has come.
 use Rattle.std.specs.Prelude.{◌≡◌, ◌≢◌, ℕ, List, Ok, Err}
 use Rattle.std.specs.declared.result.Result.{Result}
+use Rattle.ct_base.specs.declared.layout.TheConstants.{DIRECTORY_KIND}
 use Rattle.ct_base.specs.Objects.{Object}
 use Rattle.ct_base.specs.Slots.{slot_inode}
 use Rattle.ct_base.specs.Named.{Named, Leads}
@@ -13,10 +14,10 @@ use Rattle.ct_path.specs.declared.fault.PathFault.TheVariants.{BadPath, NotFound
 
 -- a slot of the object has the name and leads to the answer, or none has it, or the object is no directory
 abbrev pub Meets : (ℕ → Object) → ℕ → List ℕ → Result ℕ PathFault → Type 0
-Meets fs i x (Ok c) = ((fs i).kind ≡ 2) × (s : Named (fs i) x) × (slot_inode (fs i) s.offset ≡ c)
+Meets fs i x (Ok c) = ((fs i).kind ≡ DIRECTORY_KIND) × (s : Named (fs i) x) × (slot_inode (fs i) s.offset ≡ c)
 Meets fs i x (Err BadPath) = ⊥
-Meets fs i x (Err NotFound) = ((fs i).kind ≡ 2) × (Named (fs i) x → ⊥)
-Meets fs i x (Err NotDir) = (fs i).kind ≢ 2
+Meets fs i x (Err NotFound) = ((fs i).kind ≡ DIRECTORY_KIND) × (Named (fs i) x → ⊥)
+Meets fs i x (Err NotDir) = (fs i).kind ≢ DIRECTORY_KIND
 
 -- the node of a tree that the names that are left go on from
 pub record OnTheWay (fs : ℕ → Object) (t : Tree) (all left : List (List ℕ)) (i : ℕ) : Type 0 where

@@ -2,6 +2,7 @@
 use Rattle.std.specs.Prelude.{◌≡◌, ◌≢◌, ◌↔◌, ℕ, List, Ok, Err, Some, None, IfOk, IsOkAnd, true}
 use Rattle.std.specs.Borrow.{Bor}
 use Rattle.std.specs.declared.result.Result.{Result}
+use Rattle.ct_base.specs.declared.layout.TheConstants.{DIRECTORY_KIND}
 use Rattle.ct_base.specs.Objects.{Object}
 use Rattle.ct_base.specs.Named.{Leads}
 use Rattle.ct_base.specs.Path.{is_name, names_of}
@@ -48,10 +49,10 @@ IsParent fs found (Err fault) = no_dir found ≡ Some (refusal_of fault)
 -- where all names but the last lead from inode 1, and the last
 pub record FindsParent (fs : ℕ → Object) (xs : List (List ℕ)) (answer : Result (ℕ × Bor (List ℕ)) PathFault) : Type 0 where
   pub leads : IfOk answer (λ split. Leads fs 1 (parent xs) split.0)
-  pub dir : IfOk answer (λ split. (fs split.0).kind ≡ 2)
+  pub dir : IfOk answer (λ split. (fs split.0).kind ≡ DIRECTORY_KIND)
   pub name : IfOk answer (λ split. split.1.now ≡ last_name xs)
   pub valid : IfOk answer (λ split. is_name split.1.now ≡ true)
-  pub only : (i : ℕ) → Leads fs 1 (parent xs) i → (fs i).kind ≡ 2 → IsOkAnd answer (λ split. split.0 ≡ i)
+  pub only : (i : ℕ) → Leads fs 1 (parent xs) i → (fs i).kind ≡ DIRECTORY_KIND → IsOkAnd answer (λ split. split.0 ≡ i)
   pub tree : (t : Tree) → IsTree t → Stands fs 1 t → IsParent fs (resolve t (parent xs)) answer
 
 -- the parent of a path, and its last name

@@ -4,12 +4,9 @@ ghost use Rattle.std.specs.List.{list_all};
 ghost use Rattle.std.specs.Iterator.{YieldsFirstBy, item_count};
 ghost use Rattle.ct_base.specs.Path.{is_name, names_of, parts};
 
-use ct_base::first_part;
+use ct_base::{PATH_BYTES, first_part};
 use ct_tree::is_name;
 use std::marker::Model;
-
-/// The longest path, in bytes.
-const PATH_BYTES: usize = 4096;
 
 /// The names of a path, one after the other. Contracts see the list of those that are left.
 #[derive(Drop)]

@@ -10,6 +10,7 @@ ghost use Rattle.ct_path.specs.Meets.{Meets};
 ghost use Rattle.ct_path.specs.Resolves.{Follows, FindsParent, Resolves, Splits};
 
 use crate::{Names, PathFault, parse};
+use ct_base::{DIRECTORY_KIND, LEAST_INODES, MOST_INODES};
 use ct_dir::find;
 use ct_inode::get;
 use ct_pm::Pm;
@@ -17,20 +18,17 @@ use ct_pm::Pm;
 /// The inode of the root directory.
 const ROOT: u64 = 1;
 
-/// The kind of a directory.
-const DIRECTORY: u64 = 2;
-
 // The inode that a name leads to from an inode.
 fn step<D: Pm>(dev: &D, number: u64, name: &[u8]) -> Result<u64, PathFault>
     requires tables { AreTables (D.words dev.now) }
     requires sound { Sound (D.words dev.now) }
-    requires most { inode_count (D.words dev.now) ≤ 1048576 }
+    requires most { inode_count (D.words dev.now) ≤ MOST_INODES }
     requires live { (files (D.words dev.now) number).kind ≢ 0 }
     ensures meets { Meets (files (D.words dev.now)) number name.now result }
     ensures live { IfOk result (λ next. (files (D.words dev.now) next).kind ≢ 0) }
 {
     let dir = get(dev, number);
-    if dir.kind != DIRECTORY {
+    if dir.kind != DIRECTORY_KIND {
         return Err(PathFault::NotDir);
     }
     match find(dev, dir, name) {
@@ -43,8 +41,8 @@ fn step<D: Pm>(dev: &D, number: u64, name: &[u8]) -> Result<u64, PathFault>
 fn follow<D: Pm>(dev: &D, names: Names<'_>) -> Result<u64, PathFault>
     requires tables { AreTables (D.words dev.now) }
     requires sound { Sound (D.words dev.now) }
-    requires least { 2 ≤ inode_count (D.words dev.now) }
-    requires most { inode_count (D.words dev.now) ≤ 1048576 }
+    requires least { LEAST_INODES ≤ inode_count (D.words dev.now) }
+    requires most { inode_count (D.words dev.now) ≤ MOST_INODES }
     ensures follows { Follows (files (D.words dev.now)) names.entry result }
     ensures text { result ≢ Err PathFault.BadPath }
     ensures live { IfOk result (λ i. (files (D.words dev.now) i).kind ≢ 0) }
@@ -65,8 +63,8 @@ fn follow<D: Pm>(dev: &D, names: Names<'_>) -> Result<u64, PathFault>
 pub fn resolve<D: Pm>(dev: &D, path: &[u8]) -> Result<u64, PathFault>
     requires tables { AreTables (D.words dev.now) }
     requires sound { Sound (D.words dev.now) }
-    requires least { 2 ≤ inode_count (D.words dev.now) }
-    requires most { inode_count (D.words dev.now) ≤ 1048576 }
+    requires least { LEAST_INODES ≤ inode_count (D.words dev.now) }
+    requires most { inode_count (D.words dev.now) ≤ MOST_INODES }
     ensures resolves { Resolves (files (D.words dev.now)) path.now result }
     ensures live { IfOk result (λ i. IsLive (view (D.words dev.now)) (inode_count (D.words dev.now)) i) }
 {
@@ -80,8 +78,8 @@ pub fn resolve<D: Pm>(dev: &D, path: &[u8]) -> Result<u64, PathFault>
 fn split<'p, D: Pm>(dev: &D, first: &'p [u8], rest: Names<'p>) -> Result<(u64, &'p [u8]), PathFault>
     requires tables { AreTables (D.words dev.now) }
     requires sound { Sound (D.words dev.now) }
-    requires least { 2 ≤ inode_count (D.words dev.now) }
-    requires most { inode_count (D.words dev.now) ≤ 1048576 }
+    requires least { LEAST_INODES ≤ inode_count (D.words dev.now) }
+    requires most { inode_count (D.words dev.now) ≤ MOST_INODES }
     requires valid { AreNames (first.now ∷ rest) }
     ensures finds { FindsParent (files (D.words dev.now)) (first.now ∷ rest.entry) result }
     ensures text { result ≢ Err PathFault.BadPath }
@@ -94,7 +92,7 @@ fn split<'p, D: Pm>(dev: &D, first: &'p [u8], rest: Names<'p>) -> Result<(u64, &
         last = name;
     }
     let dir = get(dev, number);
-    if dir.kind == DIRECTORY {
+    if dir.kind == DIRECTORY_KIND {
         return Ok((number, last));
     }
     Err(PathFault::NotDir)
@@ -108,8 +106,8 @@ fn split<'p, D: Pm>(dev: &D, first: &'p [u8], rest: Names<'p>) -> Result<(u64, &
 pub fn parent_of<'p, D: Pm>(dev: &D, path: &'p [u8]) -> Result<(u64, &'p [u8]), PathFault>
     requires tables { AreTables (D.words dev.now) }
     requires sound { Sound (D.words dev.now) }
-    requires least { 2 ≤ inode_count (D.words dev.now) }
-    requires most { inode_count (D.words dev.now) ≤ 1048576 }
+    requires least { LEAST_INODES ≤ inode_count (D.words dev.now) }
+    requires most { inode_count (D.words dev.now) ≤ MOST_INODES }
     requires below { path.now ≢ 47 ∷ [] }
     ensures splits { Splits (files (D.words dev.now)) path.now result }
     ensures live { IfOk result (λ split. IsLive (view (D.words dev.now)) (inode_count (D.words dev.now)) split.0) }

@@ -1,6 +1,7 @@
 -- What a look at the words of root slot 1 that are not 0 has to show.
 use Rattle.std.specs.Prelude.{◌≡◌, ◌≢◌, ℕ, ◌+◌, ◌-◌, ◌*◌, ◌/◌, ◌%◌, ◌^◌, ◌<◌, ◌≤◌, List, true}
 use Rattle.std.specs.Int.{w64, to_le_bytes}
+use Rattle.ct_base.specs.declared.layout.TheConstants.{PARTITION_SLOT, SLOT_SPAN, TOP_LEVEL}
 use Rattle.ct_base.specs.Headers.{is_one}
 use Rattle.ct_base.specs.Inode.{Partition, inode, little, live_parts, number_of}
 use Rattle.ct_base.specs.Published.{IsRightWord}
@@ -10,9 +11,9 @@ use Rattle.ct_base.specs.View.{inode_count, view}
 
 -- each header word that is not 0 is right, the slots that hold no partition are shown so, and no other word is set
 pub record LooksRight (word_at : ℕ → ℕ) : Type 0 where
-  pub right : (n j : ℕ) → n ≤ 9 → j < 64 * 8 ^ (9 - n) → word_at (header_at (n + 1) j) ≢ 0 → IsRightWord word_at n j
-  pub slots : (j : ℕ) → j < 10 → byte_shown word_at 9 j ≡ 48
-  pub rest : (a : ℕ) → a / 549755813888 ≡ 1 → a % 8 ≡ 0 → ((n j : ℕ) → n ≤ 9 → j < 64 * 8 ^ (9 - n) → a ≢ header_at (n + 1) j) → word_at a ≡ 0
+  pub right : (n j : ℕ) → n ≤ TOP_LEVEL → j < 64 * 8 ^ (TOP_LEVEL - n) → word_at (header_at (n + 1) j) ≢ 0 → IsRightWord word_at n j
+  pub slots : (j : ℕ) → j < PARTITION_SLOT → byte_shown word_at TOP_LEVEL j ≡ 48
+  pub rest : (a : ℕ) → a / SLOT_SPAN ≡ 1 → a % 8 ≡ 0 → ((n j : ℕ) → n ≤ TOP_LEVEL → j < 64 * 8 ^ (TOP_LEVEL - n) → a ≢ header_at (n + 1) j) → word_at a ≡ 0
 
 -- the word at an address that is looked at
 abbrev pub word_of : List ℕ → ℕ → ℕ
@@ -29,7 +30,7 @@ parts_of img = live_parts (view img) (inode_count img)
 pub record IsRightByte (word_at : ℕ → ℕ) (n c : ℕ) : Type 0 where
   pub lowest : n ≡ 0 → byte_shown word_at n c ≢ 16 → byte_shown word_at n c ≡ 0
   pub itself : 1 ≤ n → byte_shown word_at n c ≡ 16 → word_at (header_at n c) ≡ 0
-  pub others : 1 ≤ n → byte_shown word_at n c ≢ 16 → (n ≡ 9 → 10 ≤ c) → byte_shown word_at n c ≡ summary (n - 1) (to_le_bytes w64 (word_at (header_at n c)))
+  pub others : 1 ≤ n → byte_shown word_at n c ≢ 16 → (n ≡ TOP_LEVEL → PARTITION_SLOT ≤ c) → byte_shown word_at n c ≡ summary (n - 1) (to_le_bytes w64 (word_at (header_at n c)))
 
 -- and it is 16 for a partition of the list alone
 pub record IsRightChild (word_at : ℕ → ℕ) (ps : List Partition) (n c : ℕ) : Type 0 where
@@ -38,7 +39,7 @@ pub record IsRightChild (word_at : ℕ → ℕ) (ps : List Partition) (n c : ℕ
 
 -- the word above the ranges 8 j to 8 j + 7 of level n agrees with the byte above it, if there is one
 pub record IsRightBelow (word_at : ℕ → ℕ) (n j : ℕ) : Type 0 where
-  pub slot : n ≡ 8 → 10 ≤ j
+  pub slot : n ≡ 8 → PARTITION_SLOT ≤ j
   pub above : n ≤ 8 → byte_shown word_at (n + 1) j ≡ summary n (to_le_bytes w64 (word_at (header_at (n + 1) j)))
 
 -- the word above these ranges agrees with what stands above and below it
@@ -48,8 +49,8 @@ pub record IsRightHeader (word_at : ℕ → ℕ) (ps : List Partition) (n j : �
 
 -- the header word of range (n + 1, j) stands at the address
 pub record IsRangeAt (a n j : ℕ) : Type 0 where
-  pub level : n ≤ 9
-  pub number : j < 64 * 8 ^ (9 - n)
+  pub level : n ≤ TOP_LEVEL
+  pub number : j < 64 * 8 ^ (TOP_LEVEL - n)
   pub is : a ≡ header_at (n + 1) j
 
 -- a header word stands at the address, and is right
@@ -65,4 +66,4 @@ AreHeaderWords word_at ps from to = (a : ℕ) → from ≤ a → a < to → a % 
 
 -- the byte of an inode's partition is 16, where it is live and has one
 abbrev pub IsPartShown : List ℕ → ℕ → Type 0
-IsPartShown img i = (inode (view img) i).kind ≢ 0 → (inode (view img) i).level ≤ 9 → byte_of img (inode (view img) i).level (number_of (part_of (view img) i)) ≡ 16
+IsPartShown img i = (inode (view img) i).kind ≢ 0 → (inode (view img) i).level ≤ TOP_LEVEL → byte_of img (inode (view img) i).level (number_of (part_of (view img) i)) ≡ 16

@@ -8,30 +8,33 @@ ghost use Rattle.ct_placing.specs.Extents.{AreExtents, AreInOrder, Collects};
 
 use crate::extent::Extent;
 use crate::inodes::bytes_of;
-use ct_base::NoMemory;
+use ct_base::{
+    ADDRESS_END, MOST_INODES, NoMemory, PAGE_BYTES, PARTITION_SLOT, SLOT_PAGES, TABLE_ENTRIES,
+    TOP_LEVEL,
+};
 use ct_inode::get;
 use ct_pm::Pm;
 use ct_walk::absent_from;
 use std::alloc::Global;
 
 /// The first virtual page of root slot 10.
-const FIRST: u64 = 1_342_177_280;
+const FIRST: u64 = PARTITION_SLOT * SLOT_PAGES;
 
 /// The page past the last one.
-const PAST: u64 = 68_719_476_736;
+const PAST: u64 = ADDRESS_END / PAGE_BYTES;
 
 /// Adds the partition of an inode, where it is live and has one.
 fn collect<D: Pm>(dev: &D, n: u64, extents: &mut Vec<Extent>) -> Result<(), NoMemory>
     requires tables { AreTables (D.words dev.now) }
     requires from { 1 ≤ n }
     requires to { n ≤ inode_count (D.words dev.now) }
-    requires few { inode_count (D.words dev.now) ≤ 1048576 }
+    requires few { inode_count (D.words dev.now) ≤ MOST_INODES }
     requires placed { ArePlaced (view (D.words dev.now)) (inode_count (D.words dev.now)) }
     ensures { OnOk result (Collects (view (D.words dev.now)) (inode_count (D.words dev.now)) n extents.old.items
         → Collects (view (D.words dev.now)) (inode_count (D.words dev.now)) (n + 1) extents.new.items) }
 {
     let f = get(dev, n);
-    if f.kind == 0 || f.level > 9 {
+    if f.kind == 0 || f.level > TOP_LEVEL {
         return Ok(());
     }
     let extent = Extent {
@@ -48,7 +51,7 @@ fn collect<D: Pm>(dev: &D, n: u64, extents: &mut Vec<Extent>) -> Result<(), NoMe
 /// The partitions of the live inodes, by rising number of these.
 fn extents_of<D: Pm>(alloc: Global, dev: &D) -> Result<Vec<Extent>, NoMemory>
     requires tables { AreTables (D.words dev.now) }
-    requires few { inode_count (D.words dev.now) ≤ 1048576 }
+    requires few { inode_count (D.words dev.now) ≤ MOST_INODES }
     requires placed { ArePlaced (view (D.words dev.now)) (inode_count (D.words dev.now)) }
     ensures { IfOk result (λ v. AreExtents (view (D.words dev.now)) (inode_count (D.words dev.now)) v.items) }
 {
@@ -62,7 +65,7 @@ fn extents_of<D: Pm>(alloc: Global, dev: &D) -> Result<Vec<Extent>, NoMemory>
 /// The partitions of the live inodes, by rising base.
 pub fn sorted_extents<D: Pm>(alloc: Global, dev: &D) -> Result<Vec<Extent>, NoMemory>
     requires tables { AreTables (D.words dev.now) }
-    requires few { inode_count (D.words dev.now) ≤ 1048576 }
+    requires few { inode_count (D.words dev.now) ≤ MOST_INODES }
     requires placed { ArePlaced (view (D.words dev.now)) (inode_count (D.words dev.now)) }
     ensures extents { IfOk result (λ v. AreExtents (view (D.words dev.now)) (inode_count (D.words dev.now)) v.items) }
     ensures sorted { IfOk result (λ v. IsNonDecreasingBy (λ e. e.base) v.items) }
@@ -87,7 +90,7 @@ pub fn are_in_order(extents: &Vec<Extent>) -> bool
 /// Whether the virtual pages from one on are absent, up to the one before another.
 fn are_absent<D: Pm>(dev: &D, from: u64, to: u64) -> bool
     requires tables { AreTables (D.words dev.now) }
-    requires high { to ≤ 512 ^ 4 }
+    requires high { to ≤ TABLE_ENTRIES ^ 4 }
     ensures { IsTrue result ↔ ((p : ℕ) → from ≤ p → p < to → page_at (D.words dev.now) 4 p ≡ 0) }
 {
     let mut page = from;
@@ -111,10 +114,10 @@ pub fn are_mapped_in_parts<D: Pm>(dev: &D, extents: &Vec<Extent>) -> bool
 {
     let mut page = FIRST;
     for extent in extents {
-        if !are_absent(dev, page, extent.base / 4096) {
+        if !are_absent(dev, page, extent.base / PAGE_BYTES) {
             return false;
         }
-        page = extent.end / 4096;
+        page = extent.end / PAGE_BYTES;
     }
     are_absent(dev, page, PAST)
 }

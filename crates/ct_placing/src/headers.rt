@@ -12,9 +12,11 @@ ghost use Rattle.ct_placing.specs.Heading.{AreHeaderWords, IsHeader, IsPartShown
 
 use crate::extent::Extent;
 use crate::extents::sorted_extents;
-use crate::header::{FIRST, byte_of, header, range_at};
+use crate::header::{TOP, byte_of, header, range_at};
 use crate::inodes::bytes_of;
-use ct_base::NoMemory;
+use ct_base::{
+    MOST_INODES, NoMemory, PAGE_BYTES, PARTITION_SLOT, SLOT_SPAN, TABLE_ENTRIES, TOP_LEVEL,
+};
 use ct_header::summary_of;
 use ct_inode::get;
 use ct_pm::Pm;
@@ -29,7 +31,7 @@ const LIVE: u8 = 16;
 const OWN: u8 = 48;
 
 /// The address past root slot 1.
-const PAST: u64 = 1_099_511_627_776;
+const PAST: u64 = 2 * SLOT_SPAN;
 
 /// Where the extent with a base ends, `None` where there is none.
 fn end_of(extents: &Vec<Extent>, base: u64) -> Option<u64>
@@ -45,8 +47,8 @@ fn end_of(extents: &Vec<Extent>, base: u64) -> Option<u64>
 
 /// Whether a range is the partition of a live inode.
 fn is_part<D: Pm>(dev: &D, extents: &Vec<Extent>, level: u32, number: u64) -> bool
-    requires level { level ≤ 9 }
-    requires number { number < 512 * 8 ^ (9 - level) }
+    requires level { level ≤ TOP_LEVEL }
+    requires number { number < TABLE_ENTRIES * 8 ^ (TOP_LEVEL - level) }
     requires apart { ArePartsApart (view (D.words dev.now)) (inode_count (D.words dev.now)) }
     requires extents { AreExtents (view (D.words dev.now)) (inode_count (D.words dev.now)) extents.now.items }
     requires sorted { IsNonDecreasingBy (λ e. e.base) extents.now.items }
@@ -63,8 +65,8 @@ fn is_part<D: Pm>(dev: &D, extents: &Vec<Extent>, level: u32, number: u64) -> bo
 /// Whether the byte of a range agrees with the word of its children.
 fn is_right_byte<D: Pm>(dev: &D, level: u32, number: u64) -> bool
     requires tables { AreTables (D.words dev.now) }
-    requires level { level ≤ 9 }
-    requires number { number < 512 * 8 ^ (9 - level) }
+    requires level { level ≤ TOP_LEVEL }
+    requires number { number < TABLE_ENTRIES * 8 ^ (TOP_LEVEL - level) }
     ensures { IsTrue result ↔ IsRightByte (word_of (D.words dev.now)) level number }
 {
     let byte = byte_of(dev, level, number);
@@ -75,7 +77,7 @@ fn is_right_byte<D: Pm>(dev: &D, level: u32, number: u64) -> bool
     if byte == LIVE {
         return word == 0;
     }
-    if level == 9 && number < 10 {
+    if level == TOP && number < PARTITION_SLOT {
         return true;
     }
     byte == summary_of(&word.to_le_bytes(), level - 1)
@@ -84,8 +86,8 @@ fn is_right_byte<D: Pm>(dev: &D, level: u32, number: u64) -> bool
 /// The same, and whether the range is a partition where the byte says so.
 fn is_right_child<D: Pm>(dev: &D, extents: &Vec<Extent>, level: u32, number: u64) -> bool
     requires tables { AreTables (D.words dev.now) }
-    requires level { level ≤ 9 }
-    requires number { number < 512 * 8 ^ (9 - level) }
+    requires level { level ≤ TOP_LEVEL }
+    requires number { number < TABLE_ENTRIES * 8 ^ (TOP_LEVEL - level) }
     requires apart { ArePartsApart (view (D.words dev.now)) (inode_count (D.words dev.now)) }
     requires extents { AreExtents (view (D.words dev.now)) (inode_count (D.words dev.now)) extents.now.items }
     requires sorted { IsNonDecreasingBy (λ e. e.base) extents.now.items }
@@ -100,14 +102,14 @@ fn is_right_child<D: Pm>(dev: &D, extents: &Vec<Extent>, level: u32, number: u64
 /// Whether the word above eight ranges agrees with the byte above it.
 fn is_right_below<D: Pm>(dev: &D, level: u32, number: u64) -> bool
     requires tables { AreTables (D.words dev.now) }
-    requires level { level ≤ 9 }
-    requires number { number < 64 * 8 ^ (9 - level) }
+    requires level { level ≤ TOP_LEVEL }
+    requires number { number < 64 * 8 ^ (TOP_LEVEL - level) }
     ensures { IsTrue result ↔ IsRightBelow (word_of (D.words dev.now)) level number }
 {
-    if level == 8 && number < 10 {
+    if level == TOP - 1 && number < PARTITION_SLOT {
         return false;
     }
-    if level == 9 {
+    if level == TOP {
         return true;
     }
     let word = header(dev, level + 1, number);
@@ -117,8 +119,8 @@ fn is_right_below<D: Pm>(dev: &D, level: u32, number: u64) -> bool
 /// Whether the word above eight ranges agrees with what stands above and below it.
 fn is_right_header<D: Pm>(dev: &D, extents: &Vec<Extent>, level: u32, number: u64) -> bool
     requires tables { AreTables (D.words dev.now) }
-    requires level { level ≤ 9 }
-    requires number { number < 64 * 8 ^ (9 - level) }
+    requires level { level ≤ TOP_LEVEL }
+    requires number { number < 64 * 8 ^ (TOP_LEVEL - level) }
     requires apart { ArePartsApart (view (D.words dev.now)) (inode_count (D.words dev.now)) }
     requires extents { AreExtents (view (D.words dev.now)) (inode_count (D.words dev.now)) extents.now.items }
     requires sorted { IsNonDecreasingBy (λ e. e.base) extents.now.items }
@@ -136,8 +138,8 @@ fn is_right_header<D: Pm>(dev: &D, extents: &Vec<Extent>, level: u32, number: u6
 fn is_right_word<D: Pm>(dev: &D, extents: &Vec<Extent>, address: u64) -> bool
     requires tables { AreTables (D.words dev.now) }
     requires aligned { address % 8 ≡ 0 }
-    requires first { 549755813888 ≤ address }
-    requires last { address < 1099511627776 }
+    requires first { SLOT_SPAN ≤ address }
+    requires last { address < 2 * SLOT_SPAN }
     requires apart { ArePartsApart (view (D.words dev.now)) (inode_count (D.words dev.now)) }
     requires extents { AreExtents (view (D.words dev.now)) (inode_count (D.words dev.now)) extents.now.items }
     requires sorted { IsNonDecreasingBy (λ e. e.base) extents.now.items }
@@ -156,19 +158,19 @@ fn is_right_word<D: Pm>(dev: &D, extents: &Vec<Extent>, address: u64) -> bool
 fn right_up_to<D: Pm>(dev: &D, extents: &Vec<Extent>, address: u64) -> Option<u64>
     requires tables { AreTables (D.words dev.now) }
     requires aligned { address % 8 ≡ 0 }
-    requires first { 549755813888 ≤ address }
-    requires last { address < 1099511627776 }
+    requires first { SLOT_SPAN ≤ address }
+    requires last { address < 2 * SLOT_SPAN }
     requires apart { ArePartsApart (view (D.words dev.now)) (inode_count (D.words dev.now)) }
     requires extents { AreExtents (view (D.words dev.now)) (inode_count (D.words dev.now)) extents.now.items }
     requires sorted { IsNonDecreasingBy (λ e. e.base) extents.now.items }
-    ensures next { IfSome result (λ e. (address < e) × (e ≤ 1099511627776) × (e % 8 ≡ 0)) }
+    ensures next { IfSome result (λ e. (address < e) × (e ≤ 2 * SLOT_SPAN) × (e % 8 ≡ 0)) }
     ensures right { IfSome result (λ e. AreHeaderWords (word_of (D.words dev.now)) (parts_of (D.words dev.now)) address e) }
-    ensures none { IfNone result (AreHeaderWords (word_of (D.words dev.now)) (parts_of (D.words dev.now)) 549755813888 1099511627776 → ⊥) }
+    ensures none { IfNone result (AreHeaderWords (word_of (D.words dev.now)) (parts_of (D.words dev.now)) SLOT_SPAN (2 * SLOT_SPAN) → ⊥) }
 {
-    let page = address / 4096;
-    let absent = absent_from(dev, 4, page, PAST / 4096);
+    let page = address / PAGE_BYTES;
+    let absent = absent_from(dev, 4, page, PAST / PAGE_BYTES);
     if absent > 0 {
-        return Some((page + absent) * 4096);
+        return Some((page + absent) * PAGE_BYTES);
     }
     if is_right_word(dev, extents, address) {
         Some(address + 8)
@@ -185,9 +187,9 @@ fn are_right_words<D: Pm>(dev: &D, extents: &Vec<Extent>) -> bool
     requires apart { ArePartsApart (view (D.words dev.now)) (inode_count (D.words dev.now)) }
     requires extents { AreExtents (view (D.words dev.now)) (inode_count (D.words dev.now)) extents.now.items }
     requires sorted { IsNonDecreasingBy (λ e. e.base) extents.now.items }
-    ensures { IsTrue result ↔ AreHeaderWords (word_of (D.words dev.now)) (parts_of (D.words dev.now)) 549755813888 1099511627776 }
+    ensures { IsTrue result ↔ AreHeaderWords (word_of (D.words dev.now)) (parts_of (D.words dev.now)) SLOT_SPAN (2 * SLOT_SPAN) }
 {
-    let mut address = FIRST;
+    let mut address = SLOT_SPAN;
     while address < PAST {
         match right_up_to(dev, extents, address) {
             Some(next) => address = next,
@@ -200,10 +202,10 @@ fn are_right_words<D: Pm>(dev: &D, extents: &Vec<Extent>) -> bool
 /// Whether the root slots that hold no partition are shown so.
 fn are_slots_shown<D: Pm>(dev: &D) -> bool
     requires tables { AreTables (D.words dev.now) }
-    ensures { IsTrue result ↔ ((j : ℕ) → j < 10 → byte_in (D.words dev.now) 9 j ≡ 48) }
+    ensures { IsTrue result ↔ ((j : ℕ) → j < PARTITION_SLOT → byte_in (D.words dev.now) TOP_LEVEL j ≡ OWN) }
 {
-    for slot in 0..10 {
-        if byte_of(dev, 9, slot) != OWN {
+    for slot in 0..PARTITION_SLOT {
+        if byte_of(dev, TOP, slot) != OWN {
             return false;
         }
     }
@@ -215,12 +217,12 @@ fn is_part_shown<D: Pm>(dev: &D, n: u64) -> bool
     requires tables { AreTables (D.words dev.now) }
     requires from { 1 ≤ n }
     requires to { n ≤ inode_count (D.words dev.now) }
-    requires few { inode_count (D.words dev.now) ≤ 1048576 }
+    requires few { inode_count (D.words dev.now) ≤ MOST_INODES }
     requires placed { ArePlaced (view (D.words dev.now)) (inode_count (D.words dev.now)) }
     ensures { IsTrue result ↔ IsPartShown (D.words dev.now) n }
 {
     let f = get(dev, n);
-    if f.kind == 0 || f.level > 9 {
+    if f.kind == 0 || f.level > TOP_LEVEL {
         return true;
     }
     byte_of(dev, f.level as u32, f.base / bytes_of(f.level)) == LIVE
@@ -229,7 +231,7 @@ fn is_part_shown<D: Pm>(dev: &D, n: u64) -> bool
 /// Whether the bytes of the live inodes' partitions show these live.
 fn are_parts_shown<D: Pm>(dev: &D) -> bool
     requires tables { AreTables (D.words dev.now) }
-    requires few { inode_count (D.words dev.now) ≤ 1048576 }
+    requires few { inode_count (D.words dev.now) ≤ MOST_INODES }
     requires placed { ArePlaced (view (D.words dev.now)) (inode_count (D.words dev.now)) }
     ensures { IsTrue result ↔ ((i : ℕ) → 1 ≤ i → i ≤ inode_count (D.words dev.now) → IsPartShown (D.words dev.now) i) }
 {
@@ -244,7 +246,7 @@ fn are_parts_shown<D: Pm>(dev: &D) -> bool
 /// Mount rule 15.
 pub fn are_headers<D: Pm>(alloc: Global, dev: &D) -> Result<bool, NoMemory>
     requires tables { AreTables (D.words dev.now) }
-    requires few { inode_count (D.words dev.now) ≤ 1048576 }
+    requires few { inode_count (D.words dev.now) ≤ MOST_INODES }
     requires placed { ArePlaced (view (D.words dev.now)) (inode_count (D.words dev.now)) }
     requires apart { ArePartsApart (view (D.words dev.now)) (inode_count (D.words dev.now)) }
     ensures { IfOk result (λ ok. IsTrue ok ↔ AreHeaders (view (D.words dev.now)) (inode_count (D.words dev.now))) }

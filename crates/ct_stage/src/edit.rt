@@ -1,17 +1,17 @@
 // What staged pages hold: new bytes in a range of addresses, and the old ones around it.
-ghost use Rattle.std.specs.Prelude.{◌≡◌, ℕ, ◌+◌, ◌*◌, ◌^◌, ◌%◌, ◌<◌, ◌≤◌, length, replicate, slice_index};
+ghost use Rattle.std.specs.Prelude.{◌≡◌, ℕ, ◌+◌, ◌*◌, ◌%◌, ◌<◌, ◌≤◌, length, replicate, slice_index};
 ghost use Rattle.ct_base.specs.Inode.{little};
 ghost use Rattle.ct_base.specs.View.{view};
 ghost use Rattle.ct_base.specs.Walk.{AreTables};
 ghost use Rattle.ct_stage.specs.Edited.{edited, given_at, AreThere, HasBytes};
 
-use ct_base::Vaddr;
+use ct_base::{ADDRESS_END, PAGE_BYTES, PAGE_WORDS, PARTITION_SLOT, SLOT_SPAN, Vaddr};
 use ct_pm::Pm;
 use ct_walk::byte_at;
 use ct_words::load_word;
 
-/// The words of a page.
-pub const PAGE_WORDS: usize = 512;
+/// The words of a page, as the length of an array.
+const WORDS: usize = PAGE_WORDS as usize;
 
 /// The word whose eight bytes are 1.
 const EACH_BYTE: u64 = 0x0101_0101_0101_0101;
@@ -37,8 +37,8 @@ pub struct Edit<'a> {
 fn edited_byte<D: Pm>(dev: &D, edit: &Edit, a: u64) -> u8
     requires tables { AreTables (D.words dev.now) }
     requires given { AreThere edit.now }
-    requires low { 10 * 2 ^ 39 ≤ a }
-    requires high { a < 2 ^ 48 }
+    requires low { PARTITION_SLOT * SLOT_SPAN ≤ a }
+    requires high { a < ADDRESS_END }
     ensures { result ≡ edited (view (D.words dev.now)) edit.now a }
 {
     if a < edit.from || edit.to <= a {
@@ -85,8 +85,8 @@ fn given_word(given: &Given, at: u64) -> u64
 fn mixed_word<D: Pm>(dev: &D, edit: &Edit, a: u64) -> u64
     requires tables { AreTables (D.words dev.now) }
     requires given { AreThere edit.now }
-    requires low { 10 * 2 ^ 39 ≤ a }
-    requires high { a + 8 ≤ 2 ^ 48 }
+    requires low { PARTITION_SLOT * SLOT_SPAN ≤ a }
+    requires high { a + 8 ≤ ADDRESS_END }
     ensures { result ≡ little (edited (view (D.words dev.now)) edit.now) a 8 }
 {
     let mut word = 0;
@@ -100,8 +100,8 @@ fn mixed_word<D: Pm>(dev: &D, edit: &Edit, a: u64) -> u64
 fn edited_word<D: Pm>(dev: &D, edit: &Edit, a: u64) -> u64
     requires tables { AreTables (D.words dev.now) }
     requires given { AreThere edit.now }
-    requires low { 10 * 2 ^ 39 ≤ a }
-    requires high { a + 8 ≤ 2 ^ 48 }
+    requires low { PARTITION_SLOT * SLOT_SPAN ≤ a }
+    requires high { a + 8 ≤ ADDRESS_END }
     requires aligned { a % 8 ≡ 0 }
     ensures { result ≡ little (edited (view (D.words dev.now)) edit.now) a 8 }
 {
@@ -115,30 +115,30 @@ fn edited_word<D: Pm>(dev: &D, edit: &Edit, a: u64) -> u64
 }
 
 // The words of a page of one byte.
-fn same_page(byte: u8) -> [u64; PAGE_WORDS]
-    ensures { result ≡ replicate 512 (byte * 72340172838076673) }
+fn same_page(byte: u8) -> [u64; WORDS]
+    ensures { result ≡ replicate PAGE_WORDS (byte * 72340172838076673) }
 {
-    [byte as u64 * EACH_BYTE; PAGE_WORDS]
+    [byte as u64 * EACH_BYTE; WORDS]
 }
 
-// The words of 512 times eight bytes of a slice.
-fn listed_page(bytes: &[u8], at: usize) -> [u64; PAGE_WORDS]
-    requires { at + 4096 ≤ length bytes.now }
-    ensures length { length result ≡ 512 }
-    ensures words { (k : ℕ) → k < 512 → slice_index result k ≡ little (slice_index bytes.now) (at + 8 * k) 8 }
+// The words of a page of bytes of a slice.
+fn listed_page(bytes: &[u8], at: usize) -> [u64; WORDS]
+    requires { at + PAGE_BYTES ≤ length bytes.now }
+    ensures length { length result ≡ PAGE_WORDS }
+    ensures words { (k : ℕ) → k < PAGE_WORDS → slice_index result k ≡ little (slice_index bytes.now) (at + 8 * k) 8 }
 {
-    let mut words = [0; PAGE_WORDS];
-    for k in 0..PAGE_WORDS {
+    let mut words = [0; WORDS];
+    for k in 0..WORDS {
         words[k] = listed_word(bytes, at + 8 * k);
     }
     words
 }
 
 // The words of a page of new bytes, number `at` and on.
-fn given_page(given: &Given, at: u64) -> [u64; PAGE_WORDS]
-    requires { HasBytes given.now (at + 4096) }
-    ensures length { length result ≡ 512 }
-    ensures words { (k : ℕ) → k < 512 → slice_index result k ≡ little (given_at given.now) (at + 8 * k) 8 }
+fn given_page(given: &Given, at: u64) -> [u64; WORDS]
+    requires { HasBytes given.now (at + PAGE_BYTES) }
+    ensures length { length result ≡ PAGE_WORDS }
+    ensures words { (k : ℕ) → k < PAGE_WORDS → slice_index result k ≡ little (given_at given.now) (at + 8 * k) 8 }
 {
     match *given {
         Given::Same(byte) => same_page(byte),
@@ -147,33 +147,33 @@ fn given_page(given: &Given, at: u64) -> [u64; PAGE_WORDS]
 }
 
 // The words of a page in which the edit may end.
-fn mixed_page<D: Pm>(dev: &D, edit: &Edit, at: u64) -> [u64; PAGE_WORDS]
+fn mixed_page<D: Pm>(dev: &D, edit: &Edit, at: u64) -> [u64; WORDS]
     requires tables { AreTables (D.words dev.now) }
     requires given { AreThere edit.now }
-    requires low { 10 * 2 ^ 39 ≤ at }
-    requires high { at + 4096 ≤ 2 ^ 48 }
-    requires aligned { at % 4096 ≡ 0 }
-    ensures length { length result ≡ 512 }
-    ensures words { (k : ℕ) → k < 512 → slice_index result k ≡ little (edited (view (D.words dev.now)) edit.now) (at + 8 * k) 8 }
+    requires low { PARTITION_SLOT * SLOT_SPAN ≤ at }
+    requires high { at + PAGE_BYTES ≤ ADDRESS_END }
+    requires aligned { at % PAGE_BYTES ≡ 0 }
+    ensures length { length result ≡ PAGE_WORDS }
+    ensures words { (k : ℕ) → k < PAGE_WORDS → slice_index result k ≡ little (edited (view (D.words dev.now)) edit.now) (at + 8 * k) 8 }
 {
-    let mut words = [0; PAGE_WORDS];
-    for k in 0..PAGE_WORDS {
+    let mut words = [0; WORDS];
+    for k in 0..WORDS {
         words[k] = edited_word(dev, edit, at + 8 * k as u64);
     }
     words
 }
 
 /// The words of the page from an address on, once the edit is made.
-pub fn edited_page<D: Pm>(dev: &D, edit: &Edit, at: u64) -> [u64; PAGE_WORDS]
+pub fn edited_page<D: Pm>(dev: &D, edit: &Edit, at: u64) -> [u64; WORDS]
     requires tables { AreTables (D.words dev.now) }
     requires given { AreThere edit.now }
-    requires low { 10 * 2 ^ 39 ≤ at }
-    requires high { at + 4096 ≤ 2 ^ 48 }
-    requires aligned { at % 4096 ≡ 0 }
-    ensures length { length result ≡ 512 }
-    ensures words { (k : ℕ) → k < 512 → slice_index result k ≡ little (edited (view (D.words dev.now)) edit.now) (at + 8 * k) 8 }
+    requires low { PARTITION_SLOT * SLOT_SPAN ≤ at }
+    requires high { at + PAGE_BYTES ≤ ADDRESS_END }
+    requires aligned { at % PAGE_BYTES ≡ 0 }
+    ensures length { length result ≡ PAGE_WORDS }
+    ensures words { (k : ℕ) → k < PAGE_WORDS → slice_index result k ≡ little (edited (view (D.words dev.now)) edit.now) (at + 8 * k) 8 }
 {
-    if edit.from <= at && at + 4096 <= edit.to {
+    if edit.from <= at && at + PAGE_BYTES <= edit.to {
         return given_page(&edit.given, at - edit.from);
     }
     mixed_page(dev, edit, at)

@@ -1,5 +1,5 @@
 // A run of pages is staged, and waited for once.
-ghost use Rattle.std.specs.Prelude.{◌≡◌, ℕ, ◌+◌, ◌*◌, ◌^◌, ◌<◌, ◌≤◌, List, length, Contains, Option, IfSome, OnOk};
+ghost use Rattle.std.specs.Prelude.{◌≡◌, ℕ, ◌+◌, ◌*◌, ◌/◌, ◌<◌, ◌≤◌, List, length, Contains, Option, IfSome, OnOk};
 ghost use Rattle.ct_base.specs.Causes.{HasCause};
 ghost use Rattle.ct_base.specs.Spares.{SparesFiles};
 ghost use Rattle.ct_base.specs.State.{SameState};
@@ -15,11 +15,15 @@ ghost use Rattle.ct_stage.specs.Staged.{Begun, Works, Makes, MayStage, Holds, Se
 
 use crate::edit::{Edit, edited_page};
 use crate::page::stage_page;
+use ct_base::{
+    ADDRESS_END, FIRST_PAGE, PAGE_BYTES, PAGE_WORDS, PARTITION_SLOT, ROOT_WORD, SLOT_PAGES,
+    STAGING_SLOT,
+};
 use ct_frames::Frames;
 use ct_pm::{Pm, PmFault};
 
 /// The line of root slot 2.
-const ROOT_LINE: u64 = 2112;
+const ROOT_LINE: u64 = (ROOT_WORD + STAGING_SLOT) / 8;
 
 /// Waits for all that was staged: the line of root slot 2 is flushed, and then there is the one fence.
 ///
@@ -27,10 +31,10 @@ const ROOT_LINE: u64 = 2112;
 ///
 /// `PmFault` where the device failed. Then what was staged may be pending.
 pub fn stage_end<D: Pm>(dev: &mut D) -> Result<(), PmFault>
-    requires { 17408 ≤ length (D.words dev.old) }
+    requires { FIRST_PAGE * PAGE_WORDS ≤ length (D.words dev.old) }
     ensures words { D.words dev.new ≡ D.words dev.old }
-    ensures works { (start : List ℕ) → (was : Option History) → (first frames : FreePages) → Works 16898 start (D.words dev.old) was (D.told dev.old) first frames →
-        Works 16898 start (D.words dev.new) was (D.told dev.new) first frames }
+    ensures works { (start : List ℕ) → (was : Option History) → (first frames : FreePages) → Works (ROOT_WORD + STAGING_SLOT) start (D.words dev.old) was (D.told dev.old) first frames →
+        Works (ROOT_WORD + STAGING_SLOT) start (D.words dev.new) was (D.told dev.new) first frames }
 
     // Of work that began with an empty slot, on a device where nothing was pending.
     ensures settled { OnOk result ((start : List ℕ) → (was : Option History) → (first frames : FreePages) → Begun start (D.words dev.old) was (D.told dev.old) first frames →
@@ -56,15 +60,15 @@ fn stage_pages<D: Pm>(
 ) -> Result<(), PmFault>
     requires tables { AreTables (D.words dev.old) }
     requires agrees { Agrees (D.words dev.old) frames.old }
-    requires empty { word (D.words dev.old) 16898 ≡ 0 }
-    requires from { 2 * 2 ^ 27 ≤ first }
-    requires to { first + count ≤ 3 * 2 ^ 27 }
+    requires empty { word (D.words dev.old) (ROOT_WORD + STAGING_SLOT) ≡ 0 }
+    requires from { STAGING_SLOT * SLOT_PAGES ≤ first }
+    requires to { first + count ≤ (STAGING_SLOT + 1) * SLOT_PAGES }
     requires some { 1 ≤ count }
-    requires side_low { 10 * 2 ^ 27 ≤ side }
-    requires side_high { side + count ≤ 2 ^ 36 }
+    requires side_low { PARTITION_SLOT * SLOT_PAGES ≤ side }
+    requires side_high { side + count ≤ ADDRESS_END / PAGE_BYTES }
     requires given { AreThere edit.now }
     requires room { missing (D.words dev.old) (pages_from first count) ≤ length frames.old.free }
-    ensures works { Works 16898 (D.words dev.old) (D.words dev.new) (D.told dev.old) (D.told dev.new) frames.old frames.new }
+    ensures works { Works (ROOT_WORD + STAGING_SLOT) (D.words dev.old) (D.words dev.new) (D.told dev.old) (D.told dev.new) frames.old frames.new }
     ensures holds { OnOk result ((j : ℕ) → j < count → Holds (D.words dev.new) (first + j) (staged_words (D.words dev.old) edit.now (side + j))) }
     ensures makes { OnOk result (Makes (pages_from first count) (D.words dev.old) (D.words dev.new) frames.old frames.new) }
     ensures taken { OnOk result (length frames.new.free + missing (D.words dev.old) (pages_from first count) ≡ length frames.old.free) }
@@ -72,7 +76,7 @@ fn stage_pages<D: Pm>(
     ensures cause { HasCause (D.faults dev.old) (D.faults dev.new) result }
 {
     for i in 0..count {
-        let words = edited_page(dev, edit, (side + i) * 4096);
+        let words = edited_page(dev, edit, (side + i) * PAGE_BYTES);
         stage_page(dev, frames, first + i, &words)?;
     }
     Ok(())
@@ -90,15 +94,15 @@ fn stage_whole<D: Pm>(
     requires tables { AreTables (D.words dev.old) }
     requires agrees { Agrees (D.words dev.old) frames.old }
     requires settled { NothingPending (D.told dev.old) }
-    requires empty { word (D.words dev.old) 16898 ≡ 0 }
-    requires from { 2 * 2 ^ 27 ≤ first }
-    requires to { first + count ≤ 3 * 2 ^ 27 }
+    requires empty { word (D.words dev.old) (ROOT_WORD + STAGING_SLOT) ≡ 0 }
+    requires from { STAGING_SLOT * SLOT_PAGES ≤ first }
+    requires to { first + count ≤ (STAGING_SLOT + 1) * SLOT_PAGES }
     requires some { 1 ≤ count }
-    requires side_low { 10 * 2 ^ 27 ≤ side }
-    requires side_high { side + count ≤ 2 ^ 36 }
+    requires side_low { PARTITION_SLOT * SLOT_PAGES ≤ side }
+    requires side_high { side + count ≤ ADDRESS_END / PAGE_BYTES }
     requires given { AreThere edit.now }
     requires room { missing (D.words dev.old) (pages_from first count) ≤ length frames.old.free }
-    ensures works { Works 16898 (D.words dev.old) (D.words dev.new) (D.told dev.old) (D.told dev.new) frames.old frames.new }
+    ensures works { Works (ROOT_WORD + STAGING_SLOT) (D.words dev.old) (D.words dev.new) (D.told dev.old) (D.told dev.new) frames.old frames.new }
     ensures holds { OnOk result ((j : ℕ) → j < count → Holds (D.words dev.new) (first + j) (staged_words (D.words dev.old) edit.now (side + j))) }
     ensures makes { OnOk result (Makes (pages_from first count) (D.words dev.old) (D.words dev.new) frames.old frames.new) }
     ensures taken { OnOk result (length frames.new.free + missing (D.words dev.old) (pages_from first count) ≡ length frames.old.free) }
@@ -130,19 +134,19 @@ pub fn stage<D: Pm>(
     requires tables { AreTables (D.words dev.old) }
     requires agrees { Agrees (D.words dev.old) frames.old }
     requires settled { NothingPending (D.told dev.old) }
-    requires empty { word (D.words dev.old) 16898 ≡ 0 }
-    requires from { 2 * 2 ^ 27 ≤ first }
-    requires to { first + count ≤ 3 * 2 ^ 27 }
+    requires empty { word (D.words dev.old) (ROOT_WORD + STAGING_SLOT) ≡ 0 }
+    requires from { STAGING_SLOT * SLOT_PAGES ≤ first }
+    requires to { first + count ≤ (STAGING_SLOT + 1) * SLOT_PAGES }
     requires some { 1 ≤ count }
-    requires side_low { 10 * 2 ^ 27 ≤ side }
-    requires side_high { side + count ≤ 2 ^ 36 }
+    requires side_low { PARTITION_SLOT * SLOT_PAGES ≤ side }
+    requires side_high { side + count ≤ ADDRESS_END / PAGE_BYTES }
     requires given { AreThere edit.now }
     requires room { missing (D.words dev.old) (pages_from first count) ≤ length frames.old.free }
 
     // The pages and their tables are there, with their words; each other cell is as before; exactly the pages that were
     // missing were taken.
     ensures holds { OnOk result ((j : ℕ) → j < count → Holds (D.words dev.new) (first + j) (staged_words (D.words dev.old) edit.now (side + j))) }
-    ensures bytes { OnOk result (AreBytes edit.now → (j o : ℕ) → j < count → o < 4096 → byte (D.words dev.new) ((first + j) * 4096 + o) ≡ edited (view (D.words dev.old)) edit.now ((side + j) * 4096 + o)) }
+    ensures bytes { OnOk result (AreBytes edit.now → (j o : ℕ) → j < count → o < PAGE_BYTES → byte (D.words dev.new) ((first + j) * PAGE_BYTES + o) ≡ edited (view (D.words dev.old)) edit.now ((side + j) * PAGE_BYTES + o)) }
     ensures makes { OnOk result (Makes (pages_from first count) (D.words dev.old) (D.words dev.new) frames.old frames.new) }
     ensures taken { OnOk result (length frames.new.free + missing (D.words dev.old) (pages_from first count) ≡ length frames.old.free) }
     ensures settled { OnOk result (NothingPending (D.told dev.new)) }

@@ -1,6 +1,7 @@
 -- Objects that stand for the tree of inode 1 and for at most one tree more: that of an orphan, which is live and has no
 -- name. Where there is no orphan, 1 is in its place.
 use Rattle.std.specs.Prelude.{◌≡◌, ◌≢◌, ◌⊎◌, ℕ, List, [], ◌∷◌}
+use Rattle.ct_base.specs.declared.layout.TheConstants.{DIRECTORY_KIND}
 use Rattle.ct_base.specs.Objects.{Object}
 use Rattle.ct_base.specs.Slots.{IsSlot, Names, slot_inode, slot_name}
 use Rattle.ct_base.specs.Named.{Named, Leads}
@@ -26,7 +27,7 @@ IsUnder fs r c = (xs : List (List ℕ)) × Up fs r xs c
 pub record AreTrees (fs : ℕ → Object) (orphan : ℕ) : Type 0 where
   pub entries : AreEntries fs
   pub apart : AreNamesApart fs
-  pub root : (fs 1).kind ≡ 2
+  pub root : (fs 1).kind ≡ DIRECTORY_KIND
   pub alive : (fs orphan).kind ≢ 0
   pub top : IsTop fs 1
   pub free : IsTop fs orphan

@@ -1,5 +1,7 @@
 -- What a slot of a directory says.
 use Rattle.std.specs.Prelude.{◌≡◌, ◌≢◌, ℕ, ◌+◌, ◌<◌, ◌≤◌, List, true}
+use Rattle.ct_base.specs.declared.TheConstants.{NAME_BYTES}
+use Rattle.ct_base.specs.declared.layout.TheConstants.{ENTRY_BYTES}
 use Rattle.ct_base.specs.Objects.{Object}
 use Rattle.ct_base.specs.Path.{is_name}
 use Rattle.ct_base.specs.Slots.{IsSlot, slot_inode, slot_length, slot_name}
@@ -10,5 +12,5 @@ pub record Holds (f : Object) (o i : ℕ) (x : List ℕ) : Type 0 where
   pub child : slot_inode f o ≡ i
   pub name : slot_name f o ≡ x
   pub is_name : is_name x ≡ true
-  pub length : slot_length f o ≤ 248
-  pub padding : (k : ℕ) → 8 + slot_length f o ≤ k → k < 256 → f.at (o + k) ≡ 0
+  pub length : slot_length f o ≤ NAME_BYTES
+  pub padding : (k : ℕ) → 8 + slot_length f o ≤ k → k < ENTRY_BYTES → f.at (o + k) ≡ 0

@@ -1,5 +1,5 @@
 // What holds of every image, in the words that the calls of the file system promise.
-ghost use Rattle.std.specs.Prelude.{◌≡◌, ◌≢◌, ◌↔◌, ◌*◌, ◌<◌, ◌≤◌, ℕ, List, [], ◌∷◌, ◌++◌, length, Some, None, true, false};
+ghost use Rattle.std.specs.Prelude.{◌≡◌, ◌≢◌, ◌↔◌, ◌-◌, ◌*◌, ◌<◌, ◌≤◌, ℕ, List, [], ◌∷◌, ◌++◌, length, Some, None, true, false};
 ghost use Rattle.std.specs.Str.{bytes_eq};
 ghost use Rattle.ct_base.specs.Format.{IsFormatted};
 ghost use Rattle.ct_base.specs.Inode.{live_parts, free_parts};
@@ -25,6 +25,11 @@ ghost use Rattle.ct_state.specs.Forest.{Entered, Forest, OneTree};
 ghost use Rattle.ct_state.specs.Leads.{LeadsTo};
 ghost use Rattle.ct_state.specs.Live.{live_count};
 
+use ct_base::{
+    DIRECTORY_KIND, FILE_KIND, LEAST_INODES, LEAST_PAGES, MOST_INODES, MOST_PAGES, PAGE_WORDS,
+    PARTITION_SLOT, TABLE_ENTRIES, TOP_LEVEL,
+};
+
 /// An image lands exactly where none of the mount rules fails, and on one tree alone.
 pub fn an_image_lands_on_one_tree()
     ensures sound { (img : List ℕ) (t : Tree) → Lands img t → HasHead img × Sound (settled img) }
@@ -45,8 +50,8 @@ pub fn alike_images_fail_alike()
 
 /// The image that a format makes lands on the empty tree, on a device of lawful size and with a lawful number of inodes.
 pub fn a_formatted_image_is_an_empty_tree()
-    ensures { (img : List ℕ) → (pages inodes : ℕ) → IsFormatted img pages inodes → 256 ≤ pages → pages * 512 ≤ length img →
-        length img ≤ 262144 * 512 → 2 ≤ inodes → inodes ≤ 1048576 → Lands img (Dir none) }
+    ensures { (img : List ℕ) → (pages inodes : ℕ) → IsFormatted img pages inodes → LEAST_PAGES ≤ pages → pages * PAGE_WORDS ≤ length img →
+        length img ≤ MOST_PAGES * PAGE_WORDS → LEAST_INODES ≤ inodes → inodes ≤ MOST_INODES → Lands img (Dir none) }
 {}
 
 /// The tree of an image has a node for each live inode, so an inode is free exactly where it has fewer nodes than there are
@@ -59,8 +64,8 @@ pub fn a_tree_has_a_node_for_each_live_inode()
         (first_free_number (view img) (inode_count img) ≡ None) ↔ (nodes t ≡ inode_count img) }
     ensures room { (img : List ℕ) (t : Tree) → Sound img → IsTree t → Stands (files img) 1 t →
         ((number : ℕ) × (first_free_number (view img) (inode_count img) ≡ Some number)) ↔ (nodes t < inode_count img) }
-    ensures crowded { (img : List ℕ) (t : Tree) → Sound img → IsTree t → Stands (files img) 1 t → (level : ℕ) → level ≤ 9 →
-        free_parts (live_parts (view img) (inode_count img)) level ≡ [] → 502 ≤ nodes t }
+    ensures crowded { (img : List ℕ) (t : Tree) → Sound img → IsTree t → Stands (files img) 1 t → (level : ℕ) → level ≤ TOP_LEVEL →
+        free_parts (live_parts (view img) (inode_count img)) level ≡ [] → TABLE_ENTRIES - PARTITION_SLOT ≤ nodes t }
 {}
 
 /// A call that no check refuses has one plan and no other, where a new node finds an inode.
@@ -83,17 +88,17 @@ pub fn an_entry_goes_and_comes()
         (w : Tree) × LeadsTo t (xs ++ (x ∷ [])) w × Forest gs j (put t (xs ++ (x ∷ [])) u) w }
     ensures discard { (fs : ℕ → Object) (i : ℕ) (t u : Tree) → Forest fs i t u → i ≢ 1 → ((k : ℕ) → IsSlot (fs i) k → ⊥) → OneTree (discard fs i) t }
     ensures fresh { (fs : ℕ → Object) (i : ℕ) (t : Tree) → OneTree fs t → (fs i).kind ≡ 0 →
-        Forest (fresh fs i 1) i t (File []) × Forest (fresh fs i 2) i t (Dir none) }
+        Forest (fresh fs i FILE_KIND) i t (File []) × Forest (fresh fs i DIRECTORY_KIND) i t (Dir none) }
 {}
 
 /// The calls on names, where none is refused, are compositions of the four, and the objects stand for the tree of the step.
 pub fn calls_on_names_are_compositions()
     ensures create { (path : List ℕ) (fs : ℕ → Object) (d o i : ℕ) (t : Tree) → OneTree fs t → (fs i).kind ≡ 0 → i < 4294967296 →
         Leads fs 1 (parent (names path)) d → IsPlace (fs d) o → (IsSlot (fs d) o → ⊥) → IsFresh (fs d) (last_name (names path)) →
-        refusal t (create path) ≡ None → OneTree (attach (fresh fs i 1) d o i (last_name (names path))) (step t (create path)).1 }
+        refusal t (create path) ≡ None → OneTree (attach (fresh fs i FILE_KIND) d o i (last_name (names path))) (step t (create path)).1 }
     ensures mkdir { (path : List ℕ) (fs : ℕ → Object) (d o i : ℕ) (t : Tree) → OneTree fs t → (fs i).kind ≡ 0 → i < 4294967296 →
         Leads fs 1 (parent (names path)) d → IsPlace (fs d) o → (IsSlot (fs d) o → ⊥) → IsFresh (fs d) (last_name (names path)) →
-        refusal t (mkdir path) ≡ None → OneTree (attach (fresh fs i 2) d o i (last_name (names path))) (step t (mkdir path)).1 }
+        refusal t (mkdir path) ≡ None → OneTree (attach (fresh fs i DIRECTORY_KIND) d o i (last_name (names path))) (step t (mkdir path)).1 }
     ensures unlink { (path : List ℕ) (fs : ℕ → Object) (d o i : ℕ) (t : Tree) → OneTree fs t →
         Entered fs d o i (parent (names path)) (last_name (names path)) → HasTail (fs d) → refusal t (unlink path) ≡ None →
         OneTree (discard (detach fs d o) i) (step t (unlink path)).1 }

@@ -1,5 +1,6 @@
 -- What is there before the record of a write.
-use Rattle.std.specs.Prelude.{◌≡◌, ◌≢◌, ℕ, ◌+◌, ◌*◌, ◌/◌, ◌^◌, ◌<◌, ◌≤◌, ◌++◌, All, List, length}
+use Rattle.std.specs.Prelude.{◌≡◌, ◌≢◌, ℕ, ◌+◌, ◌*◌, ◌/◌, ◌<◌, ◌≤◌, ◌++◌, All, List, length}
+use Rattle.ct_base.specs.declared.layout.TheConstants.{ADDRESS_END, PAGE_BYTES, PAGE_WORDS, PARTITION_SLOT, SLOT_PAGES, SLOT_SPAN, STAGING_SLOT}
 use Rattle.ct_base.specs.Exchange.{HasTables}
 use Rattle.ct_base.specs.Pieces.{pieces}
 use Rattle.ct_base.specs.View.{view}
@@ -19,10 +20,10 @@ range_wants a b n = few_wants a b n ++ pages_from b n
 pub record Prepared (old new : List ℕ) (a b n : ℕ) (edit : Edit) : Type 0 where
   pub laid : IsLaid new
   pub seen : view new ≡ view old
-  pub head : (w : ℕ) → w < 512 → word new w ≡ word old w
-  pub pages : (p : ℕ) → p / 2 ^ 27 ≢ 2 → page_at new 4 p ≡ page_at old 4 p
-  pub others : (v : ℕ) → v < 2 ^ 48 → v / 2 ^ 39 ≢ 2 → byte new v ≡ byte old v
-  pub roots : (k : ℕ) → 3 ≤ k → k < 10 → page_at new 1 k ≡ page_at old 1 k
+  pub head : (w : ℕ) → w < PAGE_WORDS → word new w ≡ word old w
+  pub pages : (p : ℕ) → p / SLOT_PAGES ≢ STAGING_SLOT → page_at new 4 p ≡ page_at old 4 p
+  pub others : (v : ℕ) → v < ADDRESS_END → v / SLOT_SPAN ≢ STAGING_SLOT → byte new v ≡ byte old v
+  pub roots : (k : ℕ) → STAGING_SLOT + 1 ≤ k → k < PARTITION_SLOT → page_at new 1 k ≡ page_at old 1 k
   pub tables : All (HasTables new a b) (pieces a b n)
-  pub bytes : AreBytes edit → (j o : ℕ) → j < n → o < 4096 → byte new ((b + j) * 4096 + o) ≡ edited (view old) edit ((a + j) * 4096 + o)
+  pub bytes : AreBytes edit → (j o : ℕ) → j < n → o < PAGE_BYTES → byte new ((b + j) * PAGE_BYTES + o) ≡ edited (view old) edit ((a + j) * PAGE_BYTES + o)
   pub size : length new ≡ length old

@@ -1,5 +1,5 @@
 // Tables of the file's side are made, and the pages are staged.
-ghost use Rattle.std.specs.Prelude.{◌≡◌, ℕ, ◌+◌, ◌*◌, ◌^◌, ◌<◌, ◌≤◌, length, Contains, OnOk};
+ghost use Rattle.std.specs.Prelude.{◌≡◌, ℕ, ◌+◌, ◌*◌, ◌/◌, ◌<◌, ◌≤◌, length, Contains, OnOk};
 ghost use Rattle.ct_base.specs.Causes.{HasCause};
 ghost use Rattle.ct_base.specs.Rules.{ArePlaced};
 ghost use Rattle.ct_base.specs.View.{view, inode_count};
@@ -12,6 +12,7 @@ ghost use Rattle.ct_stage.specs.Edited.{AreThere};
 ghost use Rattle.ct_stage.specs.Staged.{IsResting};
 ghost use Rattle.ct_write.specs.Prepared.{Prepared, range_wants};
 
+use ct_base::{ADDRESS_END, PAGE_BYTES, PARTITION_SLOT, SLOT_PAGES, STAGING_SLOT};
 use ct_frames::Frames;
 use ct_plan::side_wants;
 use ct_pm::{Pm, PmFault};
@@ -32,10 +33,10 @@ pub fn prepare<D: Pm>(
     requires agrees { Agrees (D.words dev.old) frames.old }
     requires settled { NothingPending (D.told dev.old) }
     requires some { 1 ≤ n }
-    requires first_from { 10 * 2 ^ 27 ≤ a }
-    requires first_to { a + n ≤ 2 ^ 36 }
-    requires second_from { 2 * 2 ^ 27 ≤ b }
-    requires second_to { b + n ≤ 3 * 2 ^ 27 }
+    requires first_from { PARTITION_SLOT * SLOT_PAGES ≤ a }
+    requires first_to { a + n ≤ ADDRESS_END / PAGE_BYTES }
+    requires second_from { STAGING_SLOT * SLOT_PAGES ≤ b }
+    requires second_to { b + n ≤ (STAGING_SLOT + 1) * SLOT_PAGES }
     requires given { AreThere edit.now }
     requires room { missing (D.words dev.old) (range_wants a b n) ≤ length frames.old.free }
     ensures prepared { OnOk result (Prepared (D.words dev.old) (D.words dev.new) a b n edit.now) }

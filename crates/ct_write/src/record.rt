@@ -1,5 +1,5 @@
 // The record of a write.
-ghost use Rattle.std.specs.Prelude.{◌≡◌, ◌≢◌, ◌⊎◌, ℕ, ◌+◌, ◌*◌, ◌/◌, ◌^◌, ◌<◌, ◌≤◌, [], OnOk};
+ghost use Rattle.std.specs.Prelude.{◌≡◌, ◌≢◌, ◌⊎◌, ℕ, ◌+◌, ◌-◌, ◌*◌, ◌/◌, ◌<◌, ◌≤◌, [], OnOk};
 ghost use Rattle.ct_base.specs.Causes.{HasCause};
 ghost use Rattle.ct_base.specs.Settled.{IsShut, Named};
 ghost use Rattle.ct_base.specs.Walk.{page_at, AreTables};
@@ -9,6 +9,7 @@ ghost use Rattle.ct_record.specs.Seen.{Drafts, count_of, device_behind, drafted,
 ghost use Rattle.ct_words.specs.Drafted.{MapsAlike};
 ghost use Rattle.ct_write.specs.Recorded.{CanRecord, IsBare, Recorded, SettlesRecorded, Sized};
 
+use ct_base::{INODE_BYTES, MOST_INODES, MOST_LONG_PAIRS, PAGE_BYTES};
 use ct_inode::place;
 use ct_pm::{Pm, PmFault};
 use ct_record::{Broken, Draft, Idle, conclude};
@@ -19,10 +20,10 @@ use ct_words::put_words;
 pub fn put_size<D: Pm>(draft: &mut Draft<D>, inode: u64, was: u64, size: u64) -> Result<(), PmFault>
     requires tables { AreTables (words_under draft.old) }
     requires maps { MapsAlike 0 (words_under draft.old) (drafted draft.old) }
-    requires to { inode ≤ 1048576 }
-    requires there { page_at (words_under draft.old) 4 (64 * inode / 4096) ≢ 0 }
-    requires was { shown_word (drafted draft.old) (64 * inode + 8) ≡ was }
-    requires room { count_of draft.old ≤ 8183 }
+    requires to { inode ≤ MOST_INODES }
+    requires there { page_at (words_under draft.old) 4 (INODE_BYTES * inode / PAGE_BYTES) ≢ 0 }
+    requires was { shown_word (drafted draft.old) (INODE_BYTES * inode + 8) ≡ was }
+    requires room { count_of draft.old ≤ MOST_LONG_PAIRS - 1 }
     ensures sized { OnOk result (Sized (drafted draft.old) (drafted draft.new) inode size) }
     ensures bare { OnOk result ((w : ℕ) → Named (pairs_of draft.new) w → Named (pairs_of draft.old) w ⊎ IsBare (words_under draft.old) w) }
     ensures more { OnOk result (count_of draft.old ≤ count_of draft.new) }

@@ -21,15 +21,13 @@ use crate::data::{Data, given_of, len_of};
 use crate::prepare::prepare;
 use crate::record::write_now;
 use crate::spot::{page_of, staged_page, touched};
+use ct_base::STAGING_SLOT;
 use ct_frames::Frames;
 use ct_inode::get;
 use ct_pm::Pm;
 use ct_record::Broken;
 use ct_stage::{Edit, Given};
 use ct_walk::unstage;
-
-/// The staging slot of the calls.
-const STAGING: u64 = 2;
 
 // Writes `len` given bytes.
 fn write_given<D: Pm>(
@@ -77,7 +75,7 @@ fn write_given<D: Pm>(
         Ok(dev) => dev,
         Err(broken) => return Err(broken),
     };
-    match unstage(&mut dev, frames, STAGING) {
+    match unstage(&mut dev, frames, STAGING_SLOT) {
         Ok(()) => Ok(dev),
         Err(_) => Err(Broken { dev }),
     }

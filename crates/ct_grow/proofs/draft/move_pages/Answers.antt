@@ -14,15 +14,15 @@ use Rattle.ct_grow.proofs.Spared.{named_append, swaps_spare}
 use Rattle.ct_grow.proofs.draft.move_pages.Given.{Over}
 use Rattle.ct_grow.proofs.draft.move_pages.Goals as goal
 
-pub returns-then-old-eq-NO_PART-clause-exchanged : goal.returns-then-old-eq-NO_PART-clause-exchanged
-returns-then-old-eq-NO_PART-clause-exchanged g c = rw (eq-eqb c.args.old.level 15 c.if-old-eq-NO_PART.true) (exchanged_none (drafted c.args.draft.now) (c.args.old.base / 4096) (c.args.base / 4096) c.requires.after)
+pub returns-then-old-eq-NO_PARTITION-clause-exchanged : goal.returns-then-old-eq-NO_PARTITION-clause-exchanged
+returns-then-old-eq-NO_PARTITION-clause-exchanged g c = rw (eq-eqb c.args.old.level 15 c.if-old-eq-NO_PARTITION.true) (exchanged_none (drafted c.args.draft.now) (c.args.old.base / 4096) (c.args.base / 4096) c.requires.after)
 
-pub returns-then-old-eq-NO_PART-clause-drafts : goal.returns-then-old-eq-NO_PART-clause-drafts
-returns-then-old-eq-NO_PART-clause-drafts g c = drafts_here c.args.draft.now
+pub returns-then-old-eq-NO_PARTITION-clause-drafts : goal.returns-then-old-eq-NO_PARTITION-clause-drafts
+returns-then-old-eq-NO_PARTITION-clause-drafts g c = drafts_here c.args.draft.now
 
 pub pow-pages-requires : goal.pow-pages-requires
 pow-pages-requires g c =
-    let o = c.requires.has c.if-old-eq-NO_PART.false in
+    let o = c.requires.has c.if-old-eq-NO_PARTITION.false in
     omega (arith, pow8_small c.args.old.level o.own.level)
 
 module _ (g : Over) (c : goal.After-get g) where
@@ -33,32 +33,32 @@ module _ (g : Over) (c : goal.After-get g) where
   count = c.pow-pages.ensures
 
 pub pswap-requires-clause-first : goal.pswap-requires-clause-first
-pswap-requires-clause-first g c = omega (arith, old_high (c.requires.has c.if-old-eq-NO_PART.false) c.requires.new, count g c)
+pswap-requires-clause-first g c = omega (arith, old_high (c.requires.has c.if-old-eq-NO_PARTITION.false) c.requires.new, count g c)
 
 pub pswap-requires-clause-second : goal.pswap-requires-clause-second
-pswap-requires-clause-second g c = omega (arith, new_high (c.requires.has c.if-old-eq-NO_PART.false) c.requires.new, count g c, first g c)
+pswap-requires-clause-second g c = omega (arith, new_high (c.requires.has c.if-old-eq-NO_PARTITION.false) c.requires.new, count g c, first g c)
 
 pub pswap-requires-clause-apart : goal.pswap-requires-clause-apart
 pswap-requires-clause-apart g c =
     subst (λ (n : ℕ). Apart (c.args.old.base / 4096) (c.get.result / 4096) n) (sym (count g c))
-    (subst (λ (v : ℕ). Apart (c.args.old.base / 4096) (v / 4096) (8 ^ c.args.old.level)) (sym (first g c)) (pages_apart (c.requires.has c.if-old-eq-NO_PART.false) c.requires.new))
+    (subst (λ (v : ℕ). Apart (c.args.old.base / 4096) (v / 4096) (8 ^ c.args.old.level)) (sym (first g c)) (pages_apart (c.requires.has c.if-old-eq-NO_PARTITION.false) c.requires.new))
 
 pub pswap-requires-clause-there : goal.pswap-requires-clause-there
-pswap-requires-clause-there g c = tables_at (c.requires.has c.if-old-eq-NO_PART.false) c.requires.new c.get.result c.pow-pages.result c.get.ensures.value c.pow-pages.ensures
+pswap-requires-clause-there g c = tables_at (c.requires.has c.if-old-eq-NO_PARTITION.false) c.requires.new c.get.result c.pow-pages.result c.get.ensures.value c.pow-pages.ensures
 
 pub pswap-requires-clause-room : goal.pswap-requires-clause-room
-pswap-requires-clause-room g c = omega (arith, (few_at (c.requires.has c.if-old-eq-NO_PART.false) c.requires.new c.get.result c.pow-pages.result c.get.ensures.value c.pow-pages.ensures), c.requires.count)
+pswap-requires-clause-room g c = omega (arith, (few_at (c.requires.has c.if-old-eq-NO_PARTITION.false) c.requires.new c.get.result c.pow-pages.result c.get.ensures.value c.pow-pages.ensures), c.requires.count)
 
 pub returns-clause-count : goal.returns-clause-count
-returns-clause-count g c = omega (arith, (few_at (c.requires.has c.if-old-eq-NO_PART.false) c.requires.new c.get.result c.pow-pages.result c.get.ensures.value c.pow-pages.ensures), c.requires.count, c.in_ok-pswap.ensures.count)
+returns-clause-count g c = omega (arith, (few_at (c.requires.has c.if-old-eq-NO_PARTITION.false) c.requires.new c.get.result c.pow-pages.result c.get.ensures.value c.pow-pages.ensures), c.requires.count, c.in_ok-pswap.ensures.count)
 
-pub returns-then-old-eq-NO_PART-clause-spare : goal.returns-then-old-eq-NO_PART-clause-spare
-returns-then-old-eq-NO_PART-clause-spare g c w named = inl named
+pub returns-then-old-eq-NO_PARTITION-clause-spare : goal.returns-then-old-eq-NO_PARTITION-clause-spare
+returns-then-old-eq-NO_PARTITION-clause-spare g c w named = inl named
 
 pub returns-clause-spare : goal.returns-clause-spare
 returns-clause-spare g c w named =
     let img = words_under c.args.draft.now in
-    let o = c.requires.has c.if-old-eq-NO_PART.false in
+    let o = c.requires.has c.if-old-eq-NO_PARTITION.false in
     let a = c.args.old.base / 4096 in
     let b = c.get.result / 4096 in
     elim (named_append (swap_pairs img (c.args.old.base / 4096) (c.get.result / 4096) (pieces (c.args.old.base / 4096) (c.get.result / 4096) c.pow-pages.result)) (pairs_of c.args.draft.now) w

@@ -5,9 +5,9 @@ use Rattle.ct_base.specs.View.{inode_count, view}
 use Rattle.ct_naming.proofs.Naming.{count_end, no_slot}
 use Rattle.ct_naming.proofs.named.mark_named.Goals as goal
 
-pub returns-then-dir-ne2-clause-counts : goal.returns-then-dir-ne2-clause-counts
-returns-then-dir-ne2-clause-counts g c = λ on counts.
+pub returns-then-dir-ne-DIRECTORY_KIND-clause-counts : goal.returns-then-dir-ne-DIRECTORY_KIND-clause-counts
+returns-then-dir-ne-DIRECTORY_KIND-clause-counts g c = λ on counts.
     let w = g.D.Pm.words c.args.dev.now in
     let kind = ap (λ (f : Inode). f.kind) c.get-dir.ensures in
-    let other : (inode (view w) c.args.n).kind ≢ 2 = λ two. c.if-dir-ne2.true (kind ∙ two) in
+    let other : (inode (view w) c.args.n).kind ≢ 2 = λ two. c.if-dir-ne-DIRECTORY_KIND.true (kind ∙ two) in
     count_end (λ k from s. no_slot (view w) (inode_count w) c.args.n c.requires.number other k s) counts

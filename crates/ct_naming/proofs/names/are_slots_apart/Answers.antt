@@ -10,11 +10,11 @@ use Rattle.ct_naming.proofs.Naming.{dir_is, no_slot}
 use Rattle.ct_naming.proofs.Spelt.{neighbours_apart, slots_apart}
 use Rattle.ct_naming.proofs.names.are_slots_apart.Goals as goal
 
-pub returns-then-dir-ne2 : goal.returns-then-dir-ne2
-returns-then-dir-ne2 g c =
+pub returns-then-dir-ne-DIRECTORY_KIND : goal.returns-then-dir-ne-DIRECTORY_KIND
+returns-then-dir-ne-DIRECTORY_KIND g c =
     let w = g.D.Pm.words c.args.dev.now in
     let kind = ap (λ (f : Inode). f.kind) c.get-dir.ensures in
-    let other : (inode (view w) c.args.n).kind ≢ 2 = λ two. c.if-dir-ne2.true (kind ∙ two) in
+    let other : (inode (view w) c.args.n).kind ≢ 2 = λ two. c.if-dir-ne-DIRECTORY_KIND.true (kind ∙ two) in
     (λ on o k so sk same. absurd (no_slot (view w) (inode_count w) c.args.n c.requires.number other o so), λ all. refl)
 
 pub returns : goal.returns

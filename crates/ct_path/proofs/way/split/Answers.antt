@@ -36,11 +36,11 @@ returns-clause-finds g c =
     let w = g.D.Pm.words c.args.dev.now in
     let all = c.args.first.now ∷ c.args.rest in
     let kind = kind_is w c.requires.sound c.requires.most c.loop-name.number c.loop-name.invariant.ahead.live c.get-dir.result c.get-dir.ensures in
-    halfway_file (subst (λ l. Halfway (files w) all c.loop-name.last.now l c.loop-name.number) c.in-None.ensures.steps.0 c.loop-name.invariant) (λ dir. c.if-dir-eq-DIRECTORY.false (kind ∙ dir))
+    halfway_file (subst (λ l. Halfway (files w) all c.loop-name.last.now l c.loop-name.number) c.in-None.ensures.steps.0 c.loop-name.invariant) (λ dir. c.if-dir-eq-DIRECTORY_KIND.false (kind ∙ dir))
 
-pub returns-then-dir-eq-DIRECTORY-clause-finds : goal.returns-then-dir-eq-DIRECTORY-clause-finds
-returns-then-dir-eq-DIRECTORY-clause-finds g c =
+pub returns-then-dir-eq-DIRECTORY_KIND-clause-finds : goal.returns-then-dir-eq-DIRECTORY_KIND-clause-finds
+returns-then-dir-eq-DIRECTORY_KIND-clause-finds g c =
     let w = g.D.Pm.words c.args.dev.now in
     let all = c.args.first.now ∷ c.args.rest in
     let kind = kind_is w c.requires.sound c.requires.most c.loop-name.number c.loop-name.invariant.ahead.live c.get-dir.result c.get-dir.ensures in
-    halfway_dir c.loop-name.last (subst (λ l. Halfway (files w) all c.loop-name.last.now l c.loop-name.number) c.in-None.ensures.steps.0 c.loop-name.invariant) (sym kind ∙ c.if-dir-eq-DIRECTORY.true)
+    halfway_dir c.loop-name.last (subst (λ l. Halfway (files w) all c.loop-name.last.now l c.loop-name.number) c.in-None.ensures.steps.0 c.loop-name.invariant) (sym kind ∙ c.if-dir-eq-DIRECTORY_KIND.true)

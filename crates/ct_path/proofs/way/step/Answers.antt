@@ -7,21 +7,21 @@ get-dir-requires-clause-from g c = from_one (g.D.Pm.words c.args.dev.now) c.requ
 pub get-dir-requires-clause-to : goal.get-dir-requires-clause-to
 get-dir-requires-clause-to g c = to_most (g.D.Pm.words c.args.dev.now) c.requires.sound c.requires.most c.args.number c.requires.live
 
-pub returns-then-dir-ne-DIRECTORY-clause-meets : goal.returns-then-dir-ne-DIRECTORY-clause-meets
-returns-then-dir-ne-DIRECTORY-clause-meets g c =
-    meets_file (g.D.Pm.words c.args.dev.now) c.requires.sound c.requires.most c.args.number c.requires.live c.get-dir.result c.get-dir.ensures c.if-dir-ne-DIRECTORY.true c.args.name.now
+pub returns-then-dir-ne-DIRECTORY_KIND-clause-meets : goal.returns-then-dir-ne-DIRECTORY_KIND-clause-meets
+returns-then-dir-ne-DIRECTORY_KIND-clause-meets g c =
+    meets_file (g.D.Pm.words c.args.dev.now) c.requires.sound c.requires.most c.args.number c.requires.live c.get-dir.result c.get-dir.ensures c.if-dir-ne-DIRECTORY_KIND.true c.args.name.now
 
 pub find-requires : goal.find-requires
 find-requires g c =
-    readable (g.D.Pm.words c.args.dev.now) c.requires.sound c.requires.most c.args.number c.requires.live c.get-dir.result c.get-dir.ensures c.requires.tables c.if-dir-ne-DIRECTORY.false
+    readable (g.D.Pm.words c.args.dev.now) c.requires.sound c.requires.most c.args.number c.requires.live c.get-dir.result c.get-dir.ensures c.requires.tables c.if-dir-ne-DIRECTORY_KIND.false
 
 pub returns-in-None-clause-meets : goal.returns-in-None-clause-meets
 returns-in-None-clause-meets g c =
-    meets_none (g.D.Pm.words c.args.dev.now) c.requires.sound c.requires.most c.args.number c.requires.live c.get-dir.result c.get-dir.ensures c.if-dir-ne-DIRECTORY.false c.args.name.now c.in-None.ensures.none
+    meets_none (g.D.Pm.words c.args.dev.now) c.requires.sound c.requires.most c.args.number c.requires.live c.get-dir.result c.get-dir.ensures c.if-dir-ne-DIRECTORY_KIND.false c.args.name.now c.in-None.ensures.none
 
 pub returns-in-Some-clause-meets : goal.returns-in-Some-clause-meets
 returns-in-Some-clause-meets g c =
-    meets_slot (g.D.Pm.words c.args.dev.now) c.requires.sound c.requires.most c.args.number c.requires.live c.get-dir.result c.get-dir.ensures c.if-dir-ne-DIRECTORY.false c.args.name.now c.in-Some.found.offset c.in-Some.found.inode c.in-Some.ensures.found.slot c.in-Some.ensures.found.name c.in-Some.ensures.found.inode
+    meets_slot (g.D.Pm.words c.args.dev.now) c.requires.sound c.requires.most c.args.number c.requires.live c.get-dir.result c.get-dir.ensures c.if-dir-ne-DIRECTORY_KIND.false c.args.name.now c.in-Some.found.offset c.in-Some.found.inode c.in-Some.ensures.found.slot c.in-Some.ensures.found.name c.in-Some.ensures.found.inode
 
 pub returns-in-Some-clause-live : goal.returns-in-Some-clause-live
 returns-in-Some-clause-live g c =

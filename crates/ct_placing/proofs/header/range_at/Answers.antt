@@ -1,6 +1,6 @@
 use Rattle.std.proofs.Common.{◌≡◌, ℕ, ◌+◌, ◌-◌, ◌/◌, ◌%◌, ◌^◌, ap, arith}
 use Rattle.ct_placing.proofs.Addresses.{high_range, pow_small, range_high, range_low}
-use Rattle.ct_placing.proofs.header.range_at.Goals.{else-level-le9-via-then-level-le9+else-number-pow, else-level-le9-via-else-level-le9}
+use Rattle.ct_placing.proofs.header.range_at.Goals.{else-level-le-TOP_LEVEL-via-then-level-le-TOP_LEVEL+else-number-pow, else-level-le-TOP_LEVEL-via-else-level-le-TOP_LEVEL}
 use Rattle.ct_placing.proofs.header.range_at.Goals as goal
 
 abbrev level_at : ℕ → ℕ
@@ -19,15 +19,15 @@ pub returns-then-number-pow-clause-some : goal.returns-then-number-pow-clause-so
 returns-then-number-pow-clause-some c =
     let a = c.args.address in
     range_high a (level_at a) ((a - 549755813888 - 68719476736) % 8589934592 / 8) c.requires.aligned (omega (arith, c.if-offset-lt-LOWEST.false)) (omega arith) (omega arith)
-    (omega (arith, c.if-level-le9.true)) (omega (arith, c.if-number-pow.true, c.pow.ensures))
+    (omega (arith, c.if-level-le-TOP_LEVEL.true)) (omega (arith, c.if-number-pow.true, c.pow.ensures))
 
-pub returns-else-level-le9-clause-none : goal.returns-else-level-le9-clause-none
-returns-else-level-le9-clause-none c = λ n j r.
+pub returns-else-level-le-TOP_LEVEL-clause-none : goal.returns-else-level-le-TOP_LEVEL-clause-none
+returns-else-level-le-TOP_LEVEL-clause-none c = λ n j r.
     let a = c.args.address in
     let is = high_range a n j (omega (arith, c.if-offset-lt-LOWEST.false)) r in
     let at : n ≡ level_at a = omega (arith, is.0) in
     let width = ap (λ k. 8 ^ (9 - k)) at in
-    elim c.else-level-le9.branch [
-      | else-level-le9-via-then-level-le9+else-number-pow w ↦ omega (arith, is.1, width, w.pow.ensures, w.if-number-pow.false, r.number)
-      | else-level-le9-via-else-level-le9 w ↦ omega (arith, at, w.if-level-le9.false, r.level)
+    elim c.else-level-le-TOP_LEVEL.branch [
+      | else-level-le-TOP_LEVEL-via-then-level-le-TOP_LEVEL+else-number-pow w ↦ omega (arith, is.1, width, w.pow.ensures, w.if-number-pow.false, r.number)
+      | else-level-le-TOP_LEVEL-via-else-level-le-TOP_LEVEL w ↦ omega (arith, at, w.if-level-le-TOP_LEVEL.false, r.level)
     ]

@@ -19,7 +19,7 @@ byte_of-requires-clause-number g c =
     let level : r.level ≡ f.level = ap (λ (e : Inode). e.level) is in
     let own : Owns (view w) (inode_count w) c.args.n = record {
       live = record { number = record { from = c.requires.from; to = c.requires.to }; used = λ none. omega (arith, kind, none, c.if-f-eq0.false) };
-      level = omega (arith, level, c.if-f-gt9.false);
+      level = omega (arith, level, c.if-f-gt-TOP_LEVEL.false);
     } in
     let p = part_partition (part f) (room_of c.requires.placed own).part in
     let P : Inode → Type 0 = λ e. e.base / part_bytes e.level < 512 * 8 ^ (9 - e.level) in
@@ -36,5 +36,5 @@ returns g c =
     let same : c.byte_of.result ≡ byte_of w f.level (number_of (part f)) = c.byte_of.ensures ∙ ap (λ k. byte_of w r.level (r.base / k)) c.bytes_of.ensures.bytes
     ∙ ap (λ (e : Inode). byte_of w e.level (e.base / part_bytes e.level)) is in (
       λ on used low. sym same ∙ eqb-true _ 16 on,
-      λ shown. eq-eqb _ 16 (same ∙ shown (λ none. omega (arith, kind, none, c.if-f-eq0.false)) (omega (arith, level, c.if-f-gt9.false))),
+      λ shown. eq-eqb _ 16 (same ∙ shown (λ none. omega (arith, kind, none, c.if-f-eq0.false)) (omega (arith, level, c.if-f-gt-TOP_LEVEL.false))),
     )

@@ -3,6 +3,7 @@ use Rattle.std.specs.Prelude.{◌≡◌, ℕ, ◌+◌, ◌%◌, ◌≤◌, ◌==
 use Rattle.ct_base.specs.Inode.{inode}
 use Rattle.ct_base.specs.Plan.{touched}
 use Rattle.ct_base.specs.View.{view}
+use Rattle.ct_base.specs.declared.layout.TheConstants.{PAGE_BYTES}
 use Rattle.ct_tree.specs.Need.{IsAt}
 use Rattle.ct_tree.specs.Step.{Op, append, exchange, exchange_limit, file_limit, fill, write}
 
@@ -22,5 +23,5 @@ abbrev pub KeepsLimits : List ℕ → Op → Type 0
 KeepsLimits img (write path off bytes) = off + length bytes ≤ file_limit
 KeepsLimits img (fill path off len byte) = off + len ≤ file_limit
 KeepsLimits img (append path bytes) = (i : ℕ) → IsAt img path i → (inode (view img) i).size + length bytes ≤ file_limit
-KeepsLimits img (exchange path off other other_off len) = (len % 4096 ≡ 0) × (len ≤ exchange_limit)
+KeepsLimits img (exchange path off other other_off len) = (len % PAGE_BYTES ≡ 0) × (len ≤ exchange_limit)
 KeepsLimits img op = Unit {0}

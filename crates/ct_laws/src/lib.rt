@@ -7,6 +7,9 @@
 
 pub mod cover;
 pub mod enough;
+mod limits;
 pub mod lines;
 pub mod plans;
 pub mod tails;
+
+pub use limits::CALL_PAGES;

@@ -12,6 +12,9 @@ ghost use Rattle.ct_tree.specs.Tree.{Tree};
 ghost use Rattle.ct_laws.specs.Bounds.{KeepsLimits, Touches};
 ghost use Rattle.ct_laws.specs.Plans.{AFirstCreateNeeds, ANewObjectNeeds, AFirstFillNeeds};
 
+use crate::limits::CALL_PAGES;
+use ct_base::LEAST_INODES;
+
 /// A header page of each of levels 0 to 8 with nine tables of level 1 and nine of level 2, and three tables and a page for the
 /// directory. The page of inode 2 is there; that of inode 64 is not, and is one more.
 pub fn a_first_create_needs_31_pages()
@@ -25,10 +28,10 @@ pub fn a_first_fill_of_16_mebibytes_needs_4106_pages()
 {}
 
 /// A call that no check refuses keeps to the limits, and takes at most two pages for each page of a file that it writes on, and
-/// 128.
+/// `CALL_PAGES`.
 pub fn calls_take_few_pages()
-    ensures keeps { (img : List ℕ) (t : Tree) (op : Op) → Sound img → 2 ≤ inode_count img → IsTree t → IsDir t → Stands (files img) 1 t → refusal t op ≡ None
+    ensures keeps { (img : List ℕ) (t : Tree) (op : Op) → Sound img → LEAST_INODES ≤ inode_count img → IsTree t → IsDir t → Stands (files img) 1 t → refusal t op ≡ None
         → KeepsLimits img op }
-    ensures few { (img : List ℕ) (op : Op) (need n : ℕ) → Sound img → 2 ≤ inode_count img → KeepsLimits img op → HasNeed img op need → Touches img op n
-        → need ≤ 2 * n + 128 }
+    ensures few { (img : List ℕ) (op : Op) (need n : ℕ) → Sound img → LEAST_INODES ≤ inode_count img → KeepsLimits img op → HasNeed img op need → Touches img op n
+        → need ≤ 2 * n + CALL_PAGES }
 {}

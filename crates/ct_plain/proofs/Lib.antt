@@ -1,1 +1,1 @@
-pub mod Renames
+pub mod Appends

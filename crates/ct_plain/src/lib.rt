@@ -2,8 +2,6 @@
 //! the `Tree` of `ct_tree`.
 #![tactic(auto)]
 
-mod moves;
 mod plain;
-mod ranges;
 
 pub use plain::PlainTree;

@@ -3,15 +3,15 @@ ghost use Rattle.std.specs.Prelude.{◌≡◌, ◌≤◌, Ok, IfOk, OnErr, lengt
 ghost use Rattle.std.specs.List.{list_all};
 ghost use Rattle.ct_base.specs.Path.{is_name, texts};
 ghost use Rattle.ct_tree.specs.Tree.{File, Dir, none};
-ghost use Rattle.ct_plain.specs.Does.{Does, Makes};
+ghost use Rattle.ct_moves.specs.Does.{Does};
+ghost use Rattle.ct_plain.specs.Makes.{Makes};
 ghost use Rattle.ct_node.specs.Listed.{listed};
 ghost use Rattle.ct_tree.specs.Ordered.{IsTree};
 ghost use Rattle.ct_tree.specs.Resolve.{put, cut, IsBelowRoot};
 ghost use Rattle.ct_tree.specs.Step.{file_limit, told, count, step, op_of, create, mkdir, write, fill, append, read, truncate, unlink, rmdir, rename, exchange, stat, list, locate};
 
-use crate::moves::{check_move, check_replaced};
-use crate::ranges::{check_exchange, exchanged, two_files};
-use ct_base::NoMemory;
+use ct_base::{NO_PARTITION, NoMemory};
+use ct_moves::{TwoRanges, exchange, rename, set_file};
 use ct_node::{Entry, Kind, Node, check_empty, check_vacant, names_in};
 use ct_tree::checks::{FILE_BYTES, READ_BYTES, check_end, check_limit, check_not_root};
 use ct_tree::content::{copy_bytes, filled, range, resized, written};
@@ -92,7 +92,13 @@ impl PlainTree {
                 other,
                 other_off,
                 len,
-            } => self.exchange(path, off, other, other_off, len),
+            } => self.exchange(&TwoRanges {
+                path,
+                off,
+                other,
+                other_off,
+                len,
+            }),
             Call::Stat { path } => self.stat(path),
             Call::List { path } => self.list(path),
             Call::Where { path } => self.locate(path),
@@ -149,15 +155,14 @@ impl PlainTree {
         Ok(Reply::Done)
     }
 
+    /// A write at the end.
     fn append(&mut self, path: &[u8], bytes: &[u8]) -> Result<Reply, Stop>
         ensures { Does self.old (append path.now bytes.now) result self.new }
     {
         let names = names_of(self.alloc, path)?;
         let old = self.root.file_at(&names)?;
-        check_end(old.len() as u64, bytes.len() as u64)?;
-        let data = written(self.alloc, old, old.len() as u64, bytes)?;
-        self.set_file(&names, data);
-        Ok(Reply::Done)
+        let end = old.len() as u64;
+        self.write(path, end, bytes)
     }
 
     fn truncate(&mut self, path: &[u8], len: u64) -> Result<Reply, Stop>
@@ -178,7 +183,7 @@ impl PlainTree {
         requires short { length bytes.items ≤ file_limit }
         ensures { self.new ≡ put self.old (texts names.now) (File bytes.items) }
     {
-        self.root.replace(names, Node::file(bytes));
+        set_file(&mut self.root, names, bytes);
     }
 
     fn read(&self, path: &[u8], off: u64, len: u64) -> Result<Reply, Stop>
@@ -225,34 +230,15 @@ impl PlainTree {
     {
         let names = names_of(self.alloc, path)?;
         let target = names_of(self.alloc, to)?;
-        check_move(&self.root, &names, &target)?;
-        if path == to {
-            return Ok(Reply::Done);
-        }
-        check_replaced(&self.root, &names, &target)?;
-        let root = self.root.moved(self.alloc, &names, &target)?;
-        self.root = root;
-        Ok(Reply::Done)
+        rename(self.alloc, &mut self.root, path, &names, to, &target)
     }
 
-    fn exchange(
-        &mut self,
-        path: &[u8],
-        off: u64,
-        other: &[u8],
-        other_off: u64,
-        len: u64,
-    ) -> Result<Reply, Stop>
-        ensures { Does self.old (exchange path.now off other.now other_off len) result self.new }
+    fn exchange(&mut self, asked: &TwoRanges<'_>) -> Result<Reply, Stop>
+        ensures { Does self.old (exchange asked.now.path.now asked.now.off asked.now.other.now asked.now.other_off asked.now.len) result self.new }
     {
-        let names = names_of(self.alloc, path)?;
-        let others = names_of(self.alloc, other)?;
-        let (one, two) = two_files(&self.root, &names, &others)?;
-        check_exchange(path, one, off, other, two, other_off, len)?;
-        let (first, second) = exchanged(self.alloc, one, off, two, other_off, len, path == other)?;
-        self.set_file(&names, first);
-        self.set_file(&others, second);
-        Ok(Reply::Done)
+        let names = names_of(self.alloc, asked.path)?;
+        let others = names_of(self.alloc, asked.other)?;
+        exchange(self.alloc, &mut self.root, asked, &names, &others)
     }
 
     fn stat(&self, path: &[u8]) -> Result<Reply, Stop>
@@ -277,7 +263,10 @@ impl PlainTree {
     {
         let names = names_of(self.alloc, path)?;
         self.root.file_at(&names)?;
-        Ok(Reply::At { base: 0, level: 15 })
+        Ok(Reply::At {
+            base: 0,
+            level: NO_PARTITION as u32,
+        })
     }
 }
 

@@ -12,6 +12,7 @@ use Rattle.ct_base.specs.Split.{parts_at}
 use Rattle.ct_tree.specs.Step.{Op, create, mkdir, write, fill, append, read, truncate, unlink, rmdir, rename, exchange, stat, list, locate}
 use Rattle.ct_script.specs.declared.verb.Verb.{Verb}
 use Rattle.ct_script.specs.declared.verb.Verb.TheVariants.{Create, Mkdir, Write, Fill, Append, Read, Truncate, Unlink, Rmdir, Rename, Exchange, Stat, List as ListNames, Where}
+use Rattle.ct_script.specs.declared.scratch.TheConstants.{LINE_BYTES}
 
 -- a line without one byte 13 at its end
 abbrev pub chopped : List ℕ → List ℕ
@@ -112,6 +113,6 @@ abbrev pub call_in : List (List ℕ) → Option Op
 call_in (verb ∷ word ∷ words) = option_and_then (λ v. call_with v (word ∷ words)) (verb_of verb)
 call_in words = None
 
--- a call has at most 65536 bytes, a byte 13 at the end included; its words stand with one space between each two
+-- a call has at most so many bytes, a byte 13 at the end included; its words stand with one space between each two
 abbrev pub call_of : List ℕ → Option Op
-call_of line = if nat_le (length line) 65536 then call_in (parts_at 32 (chopped line)) else None
+call_of line = if nat_le (length line) LINE_BYTES then call_in (parts_at 32 (chopped line)) else None

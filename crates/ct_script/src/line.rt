@@ -36,7 +36,7 @@ fn chopped(line: &[u8]) -> &[u8]
 }
 
 fn parse_words<'a>(line: &[u8], scratch: &'a mut Scratch) -> Option<Call<'a>>
-    requires { length line.now ≤ 65536 }
+    requires { length line.now ≤ LINE_BYTES }
     ensures { option_map op_of result ≡ call_in (parts_at 32 line.now) }
 {
     let (word, more) = first_part(line, b' ');
@@ -50,7 +50,7 @@ fn parse_words<'a>(line: &[u8], scratch: &'a mut Scratch) -> Option<Call<'a>>
 }
 
 fn after_verb<'a>(verb: Verb, rest: &[u8], scratch: &'a mut Scratch) -> Option<Call<'a>>
-    requires { length rest.now ≤ 65536 }
+    requires { length rest.now ≤ LINE_BYTES }
     ensures { option_map op_of result ≡ call_with verb (parts_at 32 rest.now) }
 {
     let (path, more) = first_part(rest, b' ');
@@ -66,7 +66,7 @@ fn after_path<'a>(
     rest: &[u8],
     scratch: &'a mut Scratch,
 ) -> Option<Call<'a>>
-    requires { length path.now + length rest.now ≤ 65536 }
+    requires { length path.now + length rest.now ≤ LINE_BYTES }
     ensures { option_map op_of result ≡ call_with verb (path.now ∷ parts_at 32 rest.now) }
 {
     let (second, more) = first_part(rest, b' ');
@@ -83,7 +83,7 @@ fn after_two<'a>(
     rest: &[u8],
     scratch: &'a mut Scratch,
 ) -> Option<Call<'a>>
-    requires { length path.now + length second.now + length rest.now ≤ 65536 }
+    requires { length path.now + length second.now + length rest.now ≤ LINE_BYTES }
     ensures { option_map op_of result ≡ call_with verb (path.now ∷ second.now ∷ parts_at 32 rest.now) }
 {
     let (third, more) = first_part(rest, b' ');
@@ -95,7 +95,7 @@ fn after_two<'a>(
 
 /// The calls of one word.
 fn of_path<'a>(verb: Verb, word: &[u8], scratch: &'a mut Scratch) -> Option<Call<'a>>
-    requires { length word.now ≤ 65536 }
+    requires { length word.now ≤ LINE_BYTES }
     ensures { option_map op_of result ≡ call_with verb (word.now ∷ []) }
 {
     let path = match scratch.path(word) {
@@ -127,7 +127,7 @@ fn of_two_words<'a>(
     word: &[u8],
     scratch: &'a mut Scratch,
 ) -> Option<Call<'a>>
-    requires { length path.now + length word.now ≤ 65536 }
+    requires { length path.now + length word.now ≤ LINE_BYTES }
     ensures { option_map op_of result ≡ call_with verb (path.now ∷ word.now ∷ []) }
 {
     match verb {
@@ -149,7 +149,7 @@ fn of_two_words<'a>(
 }
 
 fn append_of<'a>(path: &[u8], digits: &[u8], scratch: &'a mut Scratch) -> Option<Call<'a>>
-    requires { length path.now + length digits.now ≤ 65536 }
+    requires { length path.now + length digits.now ≤ LINE_BYTES }
     ensures { option_map op_of result ≡ of_two append (path_of path.now) (bytes_of digits.now) }
 {
     match scratch.path_and_bytes(path, digits) {
@@ -159,7 +159,7 @@ fn append_of<'a>(path: &[u8], digits: &[u8], scratch: &'a mut Scratch) -> Option
 }
 
 fn truncate_of<'a>(path: &[u8], len: &[u8], scratch: &'a mut Scratch) -> Option<Call<'a>>
-    requires { length path.now ≤ 65536 }
+    requires { length path.now ≤ LINE_BYTES }
     ensures { option_map op_of result ≡ of_two truncate (path_of path.now) (number_of len.now) }
 {
     match (scratch.path(path), number_of(len)) {
@@ -170,7 +170,7 @@ fn truncate_of<'a>(path: &[u8], len: &[u8], scratch: &'a mut Scratch) -> Option<
 }
 
 fn rename_of<'a>(path: &[u8], to: &[u8], scratch: &'a mut Scratch) -> Option<Call<'a>>
-    requires { length path.now + length to.now ≤ 65536 }
+    requires { length path.now + length to.now ≤ LINE_BYTES }
     ensures { option_map op_of result ≡ of_two rename (path_of path.now) (path_of to.now) }
 {
     match scratch.paths(path, to) {
@@ -187,7 +187,7 @@ fn of_three_words<'a>(
     third: &[u8],
     scratch: &'a mut Scratch,
 ) -> Option<Call<'a>>
-    requires { length path.now + length third.now ≤ 65536 }
+    requires { length path.now + length third.now ≤ LINE_BYTES }
     ensures { option_map op_of result ≡ call_with verb (path.now ∷ second.now ∷ third.now ∷ []) }
 {
     match verb {
@@ -214,7 +214,7 @@ fn write_of<'a>(
     digits: &[u8],
     scratch: &'a mut Scratch,
 ) -> Option<Call<'a>>
-    requires { length path.now + length digits.now ≤ 65536 }
+    requires { length path.now + length digits.now ≤ LINE_BYTES }
     ensures { option_map op_of result ≡ of_three write (path_of path.now) (number_of off.now) (bytes_of digits.now) }
 {
     match (scratch.path_and_bytes(path, digits), number_of(off)) {
@@ -225,7 +225,7 @@ fn write_of<'a>(
 }
 
 fn read_of<'a>(path: &[u8], off: &[u8], len: &[u8], scratch: &'a mut Scratch) -> Option<Call<'a>>
-    requires { length path.now ≤ 65536 }
+    requires { length path.now ≤ LINE_BYTES }
     ensures { option_map op_of result ≡ of_three read (path_of path.now) (number_of off.now) (number_of len.now) }
 {
     match (scratch.path(path), number_of(off), number_of(len)) {
@@ -245,7 +245,7 @@ fn of_more_words<'a>(
     rest: &[u8],
     scratch: &'a mut Scratch,
 ) -> Option<Call<'a>>
-    requires { length path.now + length third.now ≤ 65536 }
+    requires { length path.now + length third.now ≤ LINE_BYTES }
     ensures { option_map op_of result ≡ call_with verb (path.now ∷ second.now ∷ third.now ∷ parts_at 32 rest.now) }
 {
     match verb {
@@ -273,7 +273,7 @@ fn fill_of<'a>(
     rest: &[u8],
     scratch: &'a mut Scratch,
 ) -> Option<Call<'a>>
-    requires { length path.now ≤ 65536 }
+    requires { length path.now ≤ LINE_BYTES }
     ensures { option_map op_of result ≡ call_with Fill (path.now ∷ off.now ∷ len.now ∷ parts_at 32 rest.now) }
 {
     let (byte, more) = first_part(rest, b' ');
@@ -290,7 +290,7 @@ fn filled<'a>(
     byte: &[u8],
     scratch: &'a mut Scratch,
 ) -> Option<Call<'a>>
-    requires { length path.now ≤ 65536 }
+    requires { length path.now ≤ LINE_BYTES }
     ensures { option_map op_of result ≡ call_with Fill (path.now ∷ off.now ∷ len.now ∷ byte.now ∷ []) }
 {
     let (off, len, byte) = match (number_of(off), number_of(len), byte_of(byte)) {
@@ -315,7 +315,7 @@ fn exchange_of<'a>(
     rest: &[u8],
     scratch: &'a mut Scratch,
 ) -> Option<Call<'a>>
-    requires { length path.now + length other.now ≤ 65536 }
+    requires { length path.now + length other.now ≤ LINE_BYTES }
     ensures { option_map op_of result ≡ call_with Exchange (path.now ∷ off.now ∷ other.now ∷ parts_at 32 rest.now) }
 {
     let (other_off, more) = first_part(rest, b' ');
@@ -338,7 +338,7 @@ fn exchanged<'a>(
     len: &[u8],
     scratch: &'a mut Scratch,
 ) -> Option<Call<'a>>
-    requires { length path.now + length other.now ≤ 65536 }
+    requires { length path.now + length other.now ≤ LINE_BYTES }
     ensures { option_map op_of result ≡ call_with Exchange (path.now ∷ off.now ∷ other.now ∷ other_off.now ∷ len.now ∷ []) }
 {
     let (off, other_off, len) = match (number_of(off), number_of(other_off), number_of(len)) {

@@ -3,13 +3,13 @@ ghost use Rattle.std.specs.Prelude.{◌≡◌, ◌+◌, ◌*◌, ◌≤◌, ◌+
 ghost use Rattle.std.specs.Vec.{vec_capacity};
 ghost use Rattle.ct_script.specs.Texts.{escaped, escaped_byte, is_escaped};
 
-use ct_base::NoMemory;
+use ct_base::{NAME_BYTES, NoMemory};
 use percent_encoding::percent_encode_byte;
 use std::alloc::Global;
 use std::marker::Model;
 
-/// The longest name, with each of its 248 bytes escaped.
-const QUOTED_BYTES: usize = 744;
+/// The longest name, with each of its bytes escaped.
+const QUOTED_BYTES: usize = 3 * NAME_BYTES;
 
 /// A buffer for one name as it is written.
 #[derive(Drop)]
@@ -20,12 +20,13 @@ pub struct Quote {
 impl Model for Quote {
     ghost use Rattle.std.specs.Prelude.{List, ℕ, ◌≤◌};
     ghost use Rattle.std.specs.Vec.{vec_capacity};
+    ghost use Rattle.ct_script.specs.declared.quote.TheConstants.{QUOTED_BYTES};
 
     ghost Value = { List ℕ };
 
     ghost view = { λ q. q.text.items };
 
-    ghost invariant = { λ q. 744 ≤ vec_capacity q.text };
+    ghost invariant = { λ q. QUOTED_BYTES ≤ vec_capacity q.text };
 }
 
 impl Quote {
@@ -39,7 +40,7 @@ impl Quote {
 
     /// The name as it is written: bytes 0 to 32, those from 127 on and `%` as `%` and two upper-case hexadecimal digits.
     pub fn escape(&mut self, name: &[u8]) -> &[u8]
-        requires { length name.now ≤ 248 }
+        requires { length name.now ≤ NAME_BYTES }
         ensures { result.now ≡ escaped name.now }
     {
         self.text.clear();

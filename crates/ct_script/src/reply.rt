@@ -8,7 +8,7 @@ ghost use Rattle.ct_script.specs.Shows.{reply_of};
 ghost use Rattle.ct_script.specs.Texts.{reply_line, refusal_text, line_of, data_text, name_text};
 
 use crate::quote::Quote;
-use ct_base::{Sink, WriteFault};
+use ct_base::{NAME_BYTES, Sink, WriteFault};
 use ct_tree::Refusal;
 use hex::encode_to_slice;
 use itoa::Buffer;
@@ -68,7 +68,7 @@ pub fn put_names<O: Sink>(out: &mut O) -> Result<(), WriteFault>
 
 /// Writes one name into the line of names.
 pub fn put_name<O: Sink>(out: &mut O, quote: &mut Quote, name: &[u8]) -> Result<(), WriteFault>
-    requires { length name.now ≤ 248 }
+    requires { length name.now ≤ NAME_BYTES }
     ensures bytes { PutAppends (O.written out.old) (O.written out.new) result (name_text name.now) }
     ensures cause { HasCause (O.faults out.old) (O.faults out.new) result }
 {

@@ -3,6 +3,7 @@ ghost use Rattle.std.specs.Prelude.{◌≡◌, ◌+◌, ◌≤◌, ◌⊎◌, le
 ghost use Rattle.percent_encoding.specs.Percent.{percent_decode};
 ghost use Rattle.hex.specs.Hex.{decode_of};
 ghost use Rattle.ct_script.specs.Grammar.{if_ok, path_of, bytes_of};
+ghost use Rattle.ct_script.specs.declared.scratch.TheConstants.{LINE_BYTES};
 
 use ct_base::NoMemory;
 use hex::decode_to_slice;
@@ -16,7 +17,7 @@ pub const LINE_BYTES: usize = 65536;
 #[derive(Drop)]
 pub struct Scratch {
     bytes: Vec<u8>,
-    ghost long: { length bytes.items ≡ 65536 },
+    ghost long: { length bytes.items ≡ LINE_BYTES },
 }
 
 impl Scratch {
@@ -30,7 +31,7 @@ impl Scratch {
 
     /// The path that a word is.
     pub(crate) fn path(&mut self, word: &[u8]) -> Option<&[u8]>
-        requires { length word.now ≤ 65536 }
+        requires { length word.now ≤ LINE_BYTES }
         ensures { MatchOption result (path_of word.now ≡ None) (λ path. path_of word.now ≡ Some path.now) }
     {
         if word.is_empty() {
@@ -41,7 +42,7 @@ impl Scratch {
 
     /// The paths that two words are.
     pub(crate) fn paths(&mut self, first: &[u8], second: &[u8]) -> Option<(&[u8], &[u8])>
-        requires { length first.now + length second.now ≤ 65536 }
+        requires { length first.now + length second.now ≤ LINE_BYTES }
         ensures { MatchOption result ((path_of first.now ≡ None) ⊎ (path_of second.now ≡ None)) (λ r. (path_of first.now ≡ Some r.0.now) × (path_of second.now ≡ Some r.1.now)) }
     {
         if first.is_empty() {
@@ -55,7 +56,7 @@ impl Scratch {
 
     /// The path that a word is, and the bytes that digits stand for.
     pub(crate) fn path_and_bytes(&mut self, word: &[u8], digits: &[u8]) -> Option<(&[u8], &[u8])>
-        requires { length word.now + length digits.now ≤ 65536 }
+        requires { length word.now + length digits.now ≤ LINE_BYTES }
         ensures { MatchOption result ((path_of word.now ≡ None) ⊎ (bytes_of digits.now ≡ None)) (λ r. (path_of word.now ≡ Some r.0.now) × (bytes_of digits.now ≡ Some r.1.now)) }
     {
         if word.is_empty() {
@@ -69,7 +70,7 @@ impl Scratch {
 
     /// A word, percent-decoded.
     fn one(&mut self, word: &[u8]) -> &[u8]
-        requires { length word.now ≤ 65536 }
+        requires { length word.now ≤ LINE_BYTES }
         ensures { result.now ≡ percent_decode word.now }
     {
         let count = decode_onto(&mut self.bytes, word);
@@ -78,7 +79,7 @@ impl Scratch {
 
     /// Two words, percent-decoded.
     fn two(&mut self, first: &[u8], second: &[u8]) -> (&[u8], &[u8])
-        requires { length first.now + length second.now ≤ 65536 }
+        requires { length first.now + length second.now ≤ LINE_BYTES }
         ensures first { result.0.now ≡ percent_decode first.now }
         ensures second { result.1.now ≡ percent_decode second.now }
     {
@@ -87,7 +88,7 @@ impl Scratch {
 
     /// A word, percent-decoded, and the bytes that digits stand for.
     fn with_bytes(&mut self, word: &[u8], digits: &[u8]) -> Option<(&[u8], &[u8])>
-        requires { length word.now + length digits.now ≤ 65536 }
+        requires { length word.now + length digits.now ≤ LINE_BYTES }
         ensures { MatchOption result (if_ok (decode_of digits.now) ≡ None) (λ r. (r.0.now ≡ percent_decode word.now) × (if_ok (decode_of digits.now) ≡ Some r.1.now)) }
     {
         decode_bytes(self.bytes.as_mut_slice(), word, digits)

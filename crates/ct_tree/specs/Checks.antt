@@ -4,6 +4,7 @@ use Rattle.std.specs.Str.{bytes_eq}
 use Rattle.std.specs.declared.option.Option.{Option}
 use Rattle.std.specs.declared.result.Result.{Result}
 use Rattle.ct_base.specs.Path.{names_of}
+use Rattle.ct_base.specs.declared.layout.TheConstants.{PAGE_BYTES}
 use Rattle.ct_tree.specs.Tree.{Tree, File, Dir, none, entry}
 use Rattle.ct_tree.specs.Entries.{lookup}
 use Rattle.ct_tree.specs.Resolve.{resolve, parent, last_name, lies_below}
@@ -103,7 +104,7 @@ in_the_way t path to = if bytes_eq path to then None else unlike (at t path) (at
 -- the numbers are multiples of a page, and both ranges end within their files
 abbrev pub are_ranges : List ℕ → ℕ → List ℕ → ℕ → ℕ → Bool
 are_ranges bytes off other other_off len =
-    (off % 4096 == 0) && (other_off % 4096 == 0) && (len % 4096 == 0) && nat_le (off + len) (length bytes) && nat_le (other_off + len) (length other)
+    (off % PAGE_BYTES == 0) && (other_off % PAGE_BYTES == 0) && (len % PAGE_BYTES == 0) && nat_le (off + len) (length bytes) && nat_le (other_off + len) (length other)
 
 abbrev pub bad_range : Tree → List ℕ → ℕ → List ℕ → ℕ → ℕ → Option Refusal
 bad_range t path off other other_off len =

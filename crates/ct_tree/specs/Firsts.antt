@@ -1,7 +1,8 @@
 -- Which check decides where more than one of a call's checks fails, by example.
 use Rattle.std.specs.Prelude.{◌≡◌, ◌^◌, [], ◌∷◌, Some, codes}
+use Rattle.ct_base.specs.declared.layout.TheConstants.{PAGE_BYTES}
 use Rattle.ct_tree.specs.Tree.{Tree, File, Dir, none, entry}
-use Rattle.ct_tree.specs.Step.{create, mkdir, write, read, truncate, unlink, rmdir, rename, exchange, list, locate, refusal}
+use Rattle.ct_tree.specs.Step.{create, mkdir, write, read, truncate, unlink, rmdir, rename, exchange, list, locate, file_limit, refusal}
 use Rattle.ct_tree.specs.declared.call.Refusal.TheVariants.{BadPath, NotFound, NotDir, IsDir, Exists, NotEmpty, IntoSelf, IsRoot, TooBig, BadRange, TooLong}
 
 -- a directory d with an empty file g, and a file f of one byte
@@ -18,7 +19,7 @@ MakesInOrder =
 abbrev pub FilesInOrder : Type 0
 FilesInOrder =
     (refusal small_tree (write (codes "/x") (2 ^ 40) []) ≡ Some NotFound) × (refusal small_tree (truncate (codes "/d") (2 ^ 40)) ≡ Some IsDir)
-    × (refusal small_tree (write (codes "/f") (2 ^ 39) (1 ∷ [])) ≡ Some TooBig) × (refusal small_tree (read (codes "/d") 0 (2 ^ 30)) ≡ Some IsDir)
+    × (refusal small_tree (write (codes "/f") file_limit (1 ∷ [])) ≡ Some TooBig) × (refusal small_tree (read (codes "/d") 0 (2 ^ 30)) ≡ Some IsDir)
     × (refusal small_tree (read (codes "/f") 0 (2 ^ 30)) ≡ Some TooLong) × (refusal small_tree (locate (codes "/d")) ≡ Some IsDir) × (refusal small_tree (list (codes "/f/y")) ≡ Some NotDir)
 
 -- the root, then a directory, and then its entries
@@ -38,5 +39,5 @@ RenamesInOrder =
 -- both paths, then files, then the ranges, then whether these meet
 abbrev pub ExchangesInOrder : Type 0
 ExchangesInOrder =
-    (refusal small_tree (exchange (codes "/x") 0 (codes "f") 0 0) ≡ Some BadPath) × (refusal small_tree (exchange (codes "/d") 1 (codes "/x") 0 4096) ≡ Some NotFound)
-    × (refusal small_tree (exchange (codes "/f") 1 (codes "/d") 0 4096) ≡ Some IsDir) × (refusal small_tree (exchange (codes "/f") 0 (codes "/f") 0 4096) ≡ Some BadRange)
+    (refusal small_tree (exchange (codes "/x") 0 (codes "f") 0 0) ≡ Some BadPath) × (refusal small_tree (exchange (codes "/d") 1 (codes "/x") 0 PAGE_BYTES) ≡ Some NotFound)
+    × (refusal small_tree (exchange (codes "/f") 1 (codes "/d") 0 PAGE_BYTES) ≡ Some IsDir) × (refusal small_tree (exchange (codes "/f") 0 (codes "/f") 0 PAGE_BYTES) ≡ Some BadRange)

@@ -1,6 +1,7 @@
 -- Which replies a list of items may have, from one tree to another.
 use Rattle.std.specs.Prelude.{◌≡◌, ℕ, ◌<◌, ◌≤◌, ◌⊎◌, List, [], ◌∷◌, IsNone}
 use Rattle.ct_base.specs.Inode.{IsPart, part_bytes}
+use Rattle.ct_base.specs.declared.layout.TheConstants.{NO_PARTITION, PARTITION_SLOTS, TOP_LEVEL}
 use Rattle.ct_tree.specs.Tree.{Tree, nodes}
 use Rattle.ct_tree.specs.Step.{Op, create, mkdir, read, stat, list, locate, size_at, refusal, step}
 use Rattle.ct_tree.specs.declared.call.Refusal.{Refusal}
@@ -30,7 +31,7 @@ WantsSpace op = Unit {0}
 -- a file of the size may lie there: in a partition that holds it, or nowhere where it is empty
 abbrev pub MayLieAt : ℕ → ℕ → ℕ → Type 0
 MayLieAt size base level =
-    ((level ≡ 15) × (base ≡ 0) × (size ≡ 0)) ⊎ (IsPart (record { base = base; level = level }) × (size ≤ part_bytes level))
+    ((level ≡ NO_PARTITION) × (base ≡ 0) × (size ≡ 0)) ⊎ (IsPart (record { base = base; level = level }) × (size ≤ part_bytes level))
 
 -- where the file at a path lies is a choice
 abbrev pub Locates : Tree → Op → ℕ → ℕ → Tree → Type 0
@@ -48,7 +49,7 @@ WantsInode c t op = IsNone (refusal t op) × MakesNode op × (nodes t ≡ c)
 -- a refusal for space, which leaves the tree
 abbrev pub ForSpace : ℕ → Tree → Op → Refusal → Type 0
 ForSpace c t op NoInode = WantsInode c t op
-ForSpace c t op (NoPartition level) = IsNone (refusal t op) × WantsSpace op × (502 ≤ nodes t) × (WantsInode c t op → ⊥) × (level ≤ 9)
+ForSpace c t op (NoPartition level) = IsNone (refusal t op) × WantsSpace op × (PARTITION_SLOTS ≤ nodes t) × (WantsInode c t op → ⊥) × (level ≤ TOP_LEVEL)
 ForSpace c t op (NoPages free need) = IsNone (refusal t op) × WantsSpace op × (WantsInode c t op → ⊥) × (free < need)
 ForSpace c t op r = ⊥
 

@@ -3,6 +3,7 @@ use Rattle.std.specs.Prelude.{◌≡◌, ℕ, ◌<◌, ◌⊎◌, List, length, 
 use Rattle.ct_base.specs.Objects.{Object}
 use Rattle.ct_base.specs.Slots.{IsSlot, slot_inode, slot_name}
 use Rattle.ct_base.specs.Named.{Named}
+use Rattle.ct_base.specs.declared.layout.TheConstants.{DIRECTORY_KIND, FILE_KIND}
 use Rattle.ct_tree.specs.Tree.{Tree, File, Dir, Entries, none, entry}
 
 -- one of the entries has the name
@@ -11,13 +12,13 @@ HasName x none = ⊥
 HasName x (entry y node rest) = (x ≡ y) ⊎ HasName x rest
 
 pub record IsFile (f : Object) (bytes : List ℕ) : Type 0 where
-  pub kind : f.kind ≡ 1
+  pub kind : f.kind ≡ FILE_KIND
   pub size : f.size ≡ length bytes
   pub all : (k : ℕ) → k < length bytes → f.at k ≡ slice_index bytes k
 
 -- each name in the directory is one of the entries'
 pub record IsDir (f : Object) (es : Entries) : Type 0 where
-  pub kind : f.kind ≡ 2
+  pub kind : f.kind ≡ DIRECTORY_KIND
   pub names : (o : ℕ) → IsSlot f o → HasName (slot_name f o) es
 
 abbrev mutual

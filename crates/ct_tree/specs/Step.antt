@@ -1,12 +1,14 @@
 -- What each call replies, and the tree that it leaves.
-use Rattle.std.specs.Prelude.{ℕ, ◌+◌, ◌^◌, if◌then◌else◌, List, [], ◌∷◌, length, replicate, Ok, Err, Some, None}
+use Rattle.std.specs.Prelude.{ℕ, ◌+◌, if◌then◌else◌, List, [], ◌∷◌, length, replicate, Ok, Err, Some, None}
 use Rattle.std.specs.Str.{bytes_eq}
 use Rattle.std.specs.declared.option.Option.{Option}
 use Rattle.std.specs.declared.result.Result.{Result}
+use Rattle.ct_base.specs.declared.layout.TheConstants.{NO_PARTITION}
 use Rattle.ct_tree.specs.Tree.{Tree, File, Dir, Entries, none, entry}
 use Rattle.ct_tree.specs.Resolve.{put, cut, node_in}
 use Rattle.ct_tree.specs.Content.{bytes_in, range, resized, written}
 use Rattle.ct_tree.specs.Checks.{first_of, names, at, parent_at, bad_path, is_root, no_node, no_file, no_dir, is_dir, exists, has_entries, above, into_self, in_the_way, bad_range, overlap}
+use Rattle.ct_tree.specs.declared.checks.TheConstants.{EXCHANGE_BYTES, FILE_BYTES, READ_BYTES}
 use Rattle.ct_tree.specs.declared.call.Call.{Call}
 use Rattle.ct_tree.specs.declared.call.Call.TheVariants.{Create, Mkdir, Write, Fill, Append, Read, Truncate, Unlink, Rmdir, Rename, Exchange, Stat, List as ListNames, Where}
 use Rattle.ct_tree.specs.declared.call.Refusal.{Refusal}
@@ -49,13 +51,13 @@ op_of (Where path) = locate path.now
 
 -- the longest file, the longest read and the longest exchange, in bytes
 abbrev pub file_limit : ℕ
-file_limit = 2 ^ 39
+file_limit = FILE_BYTES
 
 abbrev pub read_limit : ℕ
-read_limit = 1048576
+read_limit = READ_BYTES
 
 abbrev pub exchange_limit : ℕ
-exchange_limit = 16384000
+exchange_limit = EXCHANGE_BYTES
 
 abbrev pub size_at : Tree → List ℕ → ℕ
 size_at t path = length (bytes_in (at t path))
@@ -140,7 +142,7 @@ effect t (rename path to) = (Done, moved t path to)
 effect t (exchange path off other other_off len) = (Done, exchanged t path off other other_off len)
 effect t (stat path) = (told (at t path), t)
 effect t (list path) = (Names (listed_in (at t path)), t)
-effect t (locate path) = (At 0 15, t)
+effect t (locate path) = (At 0 NO_PARTITION, t)
 
 -- a refused call leaves the tree
 abbrev pub answered : Option Refusal → Tree → Reply × Tree → Reply × Tree

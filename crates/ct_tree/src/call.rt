@@ -92,7 +92,7 @@ pub enum Refusal {
     /// The root cannot be moved or removed.
     IsRoot,
 
-    /// A file would be longer than 2^39 bytes.
+    /// A file would be longer than `FILE_BYTES`.
     TooBig,
 
     /// A range is not of whole pages, or ends past its file.
@@ -217,7 +217,7 @@ pub enum Reply {
     /// The names in a directory.
     Names(NameList),
 
-    /// Where a file lies: the base and the level of its partition, 0 and 15 where it has none.
+    /// Where a file lies: the base and the level of its partition, 0 and `NO_PARTITION` where it has none.
     At { base: u64, level: u32 },
 
     Refused(Refusal),

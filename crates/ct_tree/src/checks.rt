@@ -8,18 +8,16 @@ ghost use Rattle.ct_tree.specs.Step.{file_limit};
 ghost use Rattle.ct_tree.specs.declared.call.Refusal.TheVariants.{TooBig as too_big, IntoSelf as into_self, BadRange as bad_range};
 
 use crate::call::Refusal;
+use ct_base::{PAGE_BYTES, SLOT_SPAN};
 
-/// The longest file, in bytes.
-pub const FILE_BYTES: u64 = 1 << 39;
+/// The longest file, in bytes: a partition of the highest level fills one root slot.
+pub const FILE_BYTES: u64 = SLOT_SPAN;
 
 /// The longest read, in bytes.
 pub const READ_BYTES: u64 = 1_048_576;
 
-/// The longest exchange, in bytes.
+/// The longest exchange, in bytes: 4,000 pages, since a record has room for 8,184 pairs and each page takes two.
 pub const EXCHANGE_BYTES: u64 = 16_384_000;
-
-/// What a partition is measured in, in bytes.
-const PAGE_BYTES: u64 = 4096;
 
 /// A number is at most its limit.
 pub fn check_limit(n: u64, limit: u64, refusal: Refusal) -> Result<(), Refusal>

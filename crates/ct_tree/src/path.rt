@@ -8,15 +8,12 @@ ghost use Rattle.ct_tree.specs.Resolve.{parent, last_name};
 
 use crate::call::Refusal;
 use crate::stop::Stop;
-use ct_base::{NAME_BYTES, NoMemory, first_part};
+use ct_base::{NAME_BYTES, NoMemory, PATH_BYTES, first_part};
 use std::alloc::Global;
 
 const DOT: &[u8] = b".";
 
 const DOTS: &[u8] = b"..";
-
-/// The longest path, in bytes.
-const PATH_BYTES: usize = 4096;
 
 /// Whether the bytes are a name: 1 to 248 of them, none of which is 0 or a slash, and neither `.` nor `..`.
 pub fn is_name(name: &[u8]) -> bool

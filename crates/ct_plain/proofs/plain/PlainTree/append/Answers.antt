@@ -1,9 +1,16 @@
-use Rattle.std.proofs.Common.{length}
-use Rattle.ct_base.specs.Path.{texts}
-use Rattle.ct_tree.specs.declared.call.Refusal.TheVariants.{TooBig}
-use Rattle.ct_tree.proofs.Ordered.{written_short}
+use Rattle.std.proofs.Common.{◌≡◌, length, ap, sym, refl}
+use Rattle.ct_tree.specs.Tree.{File}
+use Rattle.ct_tree.specs.Step.{size_at}
+use Rattle.ct_tree.specs.Content.{bytes_in}
+use Rattle.ct_tree.proofs.Exchanges.{at_is}
+use Rattle.ct_plain.proofs.Appends.{append_writes}
 use Rattle.ct_plain.proofs.plain.PlainTree.append.Goals as goal
 
-pub set_file-requires-clause-short : goal.set_file-requires-clause-short
-set_file-requires-clause-short c =
-    written_short c.self.inside.root (texts c.deref.result.now) c.in_ok-old.old.now (length c.in_ok-old.old.now) c.args.bytes.now c.in_ok-data.data.items TooBig c.self.invariant.0 c.in_ok-old.ensures c.in_ok-check_end.ensures c.in_ok-data.ensures
+pub returns : goal.returns
+returns c =
+    let t = c.args.self.now in
+    let path = c.args.path.now in
+    let old = c.in_ok-old.old.now in
+    let found = at_is c.self.inside.root t path c.in_ok-names.names.items c.deref.result.now (File old) old c.self.view_is c.in_ok-names.ensures.same c.deref.ensures.value c.in_ok-old.ensures refl in
+    let end : length old ≡ size_at t path = ap (λ r. length (bytes_in r)) (sym found) in
+    append_writes t path (length old) c.args.bytes.now c.write.result _ end c.write.ensures

@@ -4,6 +4,7 @@ use Rattle.std.specs.declared.option.Option.{Option}
 use Rattle.std.specs.declared.result.Result.{Result}
 use Rattle.ct_base.specs.Causes.{Rose}
 use Rattle.ct_base.specs.View.{inode_count}
+use Rattle.ct_base.specs.declared.limits.TheConstants.{MOST_CALL_PAIRS, MOST_EXCHANGE_PAIRS}
 use Rattle.ct_pm.specs.Device.{NothingPending}
 use Rattle.ct_pm.specs.Images.{History}
 use Rattle.ct_pm.specs.Phase.{Phase}
@@ -40,8 +41,8 @@ IsChange op = ⊥
 
 -- the most pairs of a call's long record: two for each page of an exchange, else those of one swap and a size
 abbrev pub most_pairs : Op → ℕ
-most_pairs (exchange path off other other_off len) = 8000
-most_pairs op = 5111
+most_pairs (exchange path off other other_off len) = MOST_EXCHANGE_PAIRS
+most_pairs op = MOST_CALL_PAIRS
 
 -- the tree after a call
 abbrev pub after : Tree → Op → Tree

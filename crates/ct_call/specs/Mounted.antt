@@ -1,5 +1,5 @@
 -- What holds of a mounted file system between its calls.
-use Rattle.std.specs.Prelude.{◌≡◌, ℕ, ◌+◌, ◌*◌, ◌^◌, ◌<◌, ◌≤◌, true, false, List, Option}
+use Rattle.std.specs.Prelude.{◌≡◌, ℕ, ◌+◌, ◌*◌, ◌<◌, ◌≤◌, true, false, List, Option}
 use Rattle.ct_base.specs.Head.{HasHead}
 use Rattle.ct_base.specs.Inode.{IsIn, inode}
 use Rattle.ct_base.specs.Rules.{Owns, Sound, part_of}
@@ -7,6 +7,7 @@ use Rattle.ct_base.specs.Settled.{IsShut}
 use Rattle.ct_base.specs.View.{view, inode_count}
 use Rattle.ct_base.specs.Walk.{word, AreTables}
 use Rattle.ct_base.specs.Wants.{Want, is_wanted}
+use Rattle.ct_base.specs.declared.layout.TheConstants.{FILE_KIND, PAGE_BYTES, PARTITION_SLOT, ROOT_WORD, SLOT_PAGES, STAGING_SLOT, STAGING_SLOTS}
 use Rattle.ct_frames.specs.Agrees.{Agrees}
 use Rattle.ct_frames.specs.Free.{FreePages}
 use Rattle.ct_pm.specs.Device.{NothingPending}
@@ -22,7 +23,7 @@ pub record IsAtRest (words : List ℕ) : Type 0 where
   pub head : HasHead words
   pub sound : Sound words
   pub shut : IsShut words
-  pub unstaged : (k : ℕ) → k < 8 → word words (33 * 512 + 2 + k) ≡ 0
+  pub unstaged : (k : ℕ) → k < STAGING_SLOTS → word words (ROOT_WORD + STAGING_SLOT + k) ≡ 0
   pub tables : AreTables words
 
 -- none of the mount rules fails, both gates are closed, staging is empty, nothing is pending, and these pages are free
@@ -30,16 +31,16 @@ pub record IsMounted (words : List ℕ) (told : Option History) (frames : FreePa
   pub head : HasHead words
   pub sound : Sound words
   pub shut : IsShut words
-  pub unstaged : (k : ℕ) → k < 8 → word words (33 * 512 + 2 + k) ≡ 0
+  pub unstaged : (k : ℕ) → k < STAGING_SLOTS → word words (ROOT_WORD + STAGING_SLOT + k) ≡ 0
   pub tables : AreTables words
   pub settled : NothingPending told
   pub agrees : Agrees words frames
 
 -- the pages that are wanted above the staging slots lie in live partitions, and none in a staging slot
 pub record AreOwned (img : List ℕ) (wants : List Want) : Type 0 where
-  pub pages : (p : ℕ) → 10 * 2 ^ 27 ≤ p → is_wanted wants 4 p ≡ true → (i : ℕ) × Owns (view img) (inode_count img) i × IsIn (part_of (view img) i) (p * 4096)
-  pub staging : (k : ℕ) → k < 8 → is_wanted wants 1 (2 + k) ≡ false
+  pub pages : (p : ℕ) → PARTITION_SLOT * SLOT_PAGES ≤ p → is_wanted wants 4 p ≡ true → (i : ℕ) × Owns (view img) (inode_count img) i × IsIn (part_of (view img) i) (p * PAGE_BYTES)
+  pub staging : (k : ℕ) → k < STAGING_SLOTS → is_wanted wants 1 (STAGING_SLOT + k) ≡ false
 
 -- no page that is wanted above the staging slots lies in the partition of a live file
 abbrev pub OffFiles : List ℕ → List Want → Type 0
-OffFiles img wants = (p : ℕ) → 10 * 2 ^ 27 ≤ p → is_wanted wants 4 p ≡ true → (i : ℕ) → Owns (view img) (inode_count img) i → (inode (view img) i).kind ≡ 1 → IsIn (part_of (view img) i) (p * 4096) → ⊥
+OffFiles img wants = (p : ℕ) → PARTITION_SLOT * SLOT_PAGES ≤ p → is_wanted wants 4 p ≡ true → (i : ℕ) → Owns (view img) (inode_count img) i → (inode (view img) i).kind ≡ FILE_KIND → IsIn (part_of (view img) i) (p * PAGE_BYTES) → ⊥

@@ -8,6 +8,7 @@ use Rattle.ct_base.specs.Rules.{Owns}
 use Rattle.ct_base.specs.Slots.{IsSlot, free_slot, slot_inode, slot_name}
 use Rattle.ct_base.specs.View.{view, inode_count}
 use Rattle.ct_base.specs.Walk.{walk}
+use Rattle.ct_base.specs.declared.layout.TheConstants.{PAGE_BYTES}
 use Rattle.ct_tree.specs.Checks.{names}
 use Rattle.ct_tree.specs.Lands.{files}
 use Rattle.ct_tree.specs.Need.{Grows, HasNeed, IsParentAt}
@@ -45,7 +46,7 @@ EntersAt old new op = Unit {0}
 
 -- the offset lies on a page that holds one of len bytes from off on
 abbrev pub IsTouched : ℕ → ℕ → ℕ → Type 0
-IsTouched off len v = (off / 4096 ≤ v / 4096) × (v / 4096 * 4096 < off + len)
+IsTouched off len v = (off / PAGE_BYTES ≤ v / PAGE_BYTES) × (v / PAGE_BYTES * PAGE_BYTES < off + len)
 
 -- the call gives the offset of object i another page
 abbrev pub Replaces : List ℕ → Op → ℕ → ℕ → Type 0

@@ -1,10 +1,11 @@
 -- What a call needs, before anything is stored: the plan as the code has it, and what must be known of it.
-use Rattle.std.specs.Prelude.{◌≡◌, ◌≢◌, ◌⊎◌, ℕ, ◌+◌, ◌*◌, ◌/◌, ◌^◌, ◌<◌, ◌≤◌, true, false, List, [], ◌++◌, All, map, length, Option, Some, None}
+use Rattle.std.specs.Prelude.{◌≡◌, ◌≢◌, ◌⊎◌, ℕ, ◌+◌, ◌*◌, ◌/◌, ◌<◌, ◌≤◌, true, false, List, [], ◌++◌, All, map, length, Option, Some, None}
 use Rattle.ct_base.specs.declared.inode.Inode.{Inode}
 use Rattle.ct_base.specs.Inode.{IsIn, IsLive, IsPart, Partition, free_parts, live_parts, part, part_bytes}
 use Rattle.ct_base.specs.Plan.{Plan, counted, growth_wants, next_part}
 use Rattle.ct_base.specs.View.{view, inode_count}
 use Rattle.ct_base.specs.Wants.{Want, is_wanted, missing}
+use Rattle.ct_base.specs.declared.layout.TheConstants.{DIRECTORY_KIND, NO_PARTITION, PAGE_BYTES, PARTITION_SLOT, SLOT_PAGES, STAGING_SLOT, STAGING_SLOTS, TOP_LEVEL}
 use Rattle.ct_frames.specs.Free.{FreePages}
 use Rattle.ct_grow.specs.Follows.{Follows}
 use Rattle.ct_call.specs.declared.plan.CallPlan.{CallPlan}
@@ -60,9 +61,9 @@ grown_wants img f (Some level) = growth_wants f (next_part (view img) (inode_cou
 -- partition, in the part that growth adds, and only a directory asks for pages; nothing is asked for in a staging slot.
 pub record Asks (img : List ℕ) (i : ℕ) (f : Inode) (growth : Option ℕ) (wants more : List Want) : Type 0 where
   pub live : IsLive (view img) (inode_count img) i
-  pub grows : (level : ℕ) → growth ≡ Some level → (level ≤ 9) × ((f.level ≡ 15) ⊎ (f.level < level))
+  pub grows : (level : ℕ) → growth ≡ Some level → (level ≤ TOP_LEVEL) × ((f.level ≡ NO_PARTITION) ⊎ (f.level < level))
   pub counts : missing img wants ≡ missing img (grown_wants img f growth ++ map (counted f (part_then img f growth)) more)
   pub follows : (level : ℕ) → growth ≡ Some level → All (Follows f (next_part (view img) (inode_count img) level)) more
-  pub staging : (k : ℕ) → k < 8 → is_wanted more 1 (2 + k) ≡ false
-  pub pages : (n : ℕ) → 10 * 2 ^ 27 ≤ n → is_wanted more 4 n ≡ true → (f.kind ≡ 2) × IsPart (part_then img f growth) × IsIn (part_then img f growth) (n * 4096)
-  pub past : (level v : ℕ) → growth ≡ Some level → f.level ≤ 9 → v < part_bytes f.level → is_wanted more 4 (((next_part (view img) (inode_count img) level).base + v) / 4096) ≡ false
+  pub staging : (k : ℕ) → k < STAGING_SLOTS → is_wanted more 1 (STAGING_SLOT + k) ≡ false
+  pub pages : (n : ℕ) → PARTITION_SLOT * SLOT_PAGES ≤ n → is_wanted more 4 n ≡ true → (f.kind ≡ DIRECTORY_KIND) × IsPart (part_then img f growth) × IsIn (part_then img f growth) (n * PAGE_BYTES)
+  pub past : (level v : ℕ) → growth ≡ Some level → f.level ≤ TOP_LEVEL → v < part_bytes f.level → is_wanted more 4 (((next_part (view img) (inode_count img) level).base + v) / PAGE_BYTES) ≡ false

@@ -6,6 +6,7 @@ use Rattle.ct_base.specs.View.{view, inode_count}
 use Rattle.ct_frames.specs.Free.{FreePages}
 use Rattle.ct_base.specs.Walk.{page_at, word}
 use Rattle.ct_base.specs.Wants.{Want}
+use Rattle.ct_base.specs.declared.layout.TheConstants.{PAGE_WORDS}
 use Rattle.ct_grow.specs.Grown.{CellsMoved, Promoted}
 use Rattle.ct_tree.specs.Lands.{files}
 use Rattle.ct_walk.specs.Has.{HasAll}
@@ -36,5 +37,5 @@ pub record MakesRoom (old new : List ℕ) (i : ℕ) (growth : Option ℕ) (asked
 -- each cell, page 0 and the length stay
 pub record KeepsTables (old new : List ℕ) : Type 0 where
   pub cells : (d x : ℕ) → d ≤ 4 → page_at new d x ≡ page_at old d x
-  pub head : (w : ℕ) → w < 512 → word new w ≡ word old w
+  pub head : (w : ℕ) → w < PAGE_WORDS → word new w ≡ word old w
   pub size : length new ≡ length old

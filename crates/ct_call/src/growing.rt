@@ -14,6 +14,7 @@ ghost use Rattle.ct_call.specs.Landing.{LandsAs};
 ghost use Rattle.ct_call.specs.Mounted.{IsAtRest};
 ghost use Rattle.ct_call.specs.Rooms.{Gives};
 
+use ct_base::MOST_GROWTH_PAIRS;
 use ct_frames::Frames;
 use ct_grow::promote;
 use ct_pm::Pm;
@@ -43,7 +44,7 @@ pub fn grow<D: Pm>(
     ensures settled { OnOk result (NothingPending (D.told (device_behind result))) }
 
     // A crash at any moment lands on the objects that there are.
-    ensures phase { Phase (LandsAs (files (D.words dev))) 150 (D.told dev) (D.told (device_behind result)) (D.words (device_behind result)) }
+    ensures phase { Phase (LandsAs (files (D.words dev))) MOST_GROWTH_PAIRS (D.told dev) (D.told (device_behind result)) (D.words (device_behind result)) }
     ensures cause { HasCause (D.faults dev) (D.faults (device_behind result)) result }
 {
     match growth {

@@ -17,6 +17,7 @@ ghost use Rattle.ct_call.specs.Rooms.{MakesRoom};
 use crate::growing::grow;
 use crate::pages::make_pages;
 use crate::plan::CallPlan;
+use ct_base::MOST_GROWTH_PAIRS;
 use ct_frames::Frames;
 use ct_pm::Pm;
 use ct_record::Broken;
@@ -45,7 +46,7 @@ pub fn room<D: Pm>(
     ensures settled { OnOk result (NothingPending (D.told (device_behind result))) }
 
     // A crash at any moment lands on the objects that there are.
-    ensures phase { Phase (LandsAs (files (D.words dev))) 150 (D.told dev) (D.told (device_behind result)) (D.words (device_behind result)) }
+    ensures phase { Phase (LandsAs (files (D.words dev))) MOST_GROWTH_PAIRS (D.told dev) (D.told (device_behind result)) (D.words (device_behind result)) }
     ensures cause { HasCause (D.faults dev) (D.faults (device_behind result)) result }
 {
     let level = plan.growth.level();

@@ -1,5 +1,5 @@
 // What a call needs: an object grows or stays, and tables and pages are made.
-ghost use Rattle.std.specs.Prelude.{◌≡◌, ◌+◌, ◌*◌, ◌^◌, ◌<◌, ◌≤◌, ◌++◌, length, MatchOption};
+ghost use Rattle.std.specs.Prelude.{◌≡◌, ◌+◌, ◌<◌, ◌≤◌, ◌++◌, length, MatchOption};
 ghost use Rattle.ct_base.specs.Plan.{page_want};
 ghost use Rattle.ct_base.specs.Rules.{IsPlaced};
 ghost use Rattle.ct_call.specs.Plans.{IsOpen, level_of};

@@ -4,6 +4,7 @@ use Rattle.std.specs.declared.result.Result.{Result}
 use Rattle.ct_base.specs.declared.inode.Inode.{Inode}
 use Rattle.ct_base.specs.Inode.{IsLive, inode}
 use Rattle.ct_base.specs.View.{view, inode_count}
+use Rattle.ct_base.specs.declared.layout.TheConstants.{FILE_KIND}
 use Rattle.ct_tree.specs.Checks.{at, bad_path, first_of, no_file}
 use Rattle.ct_tree.specs.Lands.{files}
 use Rattle.ct_tree.specs.Need.{IsAt}
@@ -16,7 +17,7 @@ use Rattle.ct_call.specs.Calls.{StandsFor}
 pub record IsFileAt (img : List ℕ) (path : List ℕ) (i : ℕ) (f : Inode) : Type 0 where
   pub live : IsLive (view img) (inode_count img) i
   pub is : inode (view img) i ≡ f
-  pub kind : f.kind ≡ 1
+  pub kind : f.kind ≡ FILE_KIND
   pub leads : IsAt img path i
   pub valid : bad_path path ≡ None
   pub node : (t : Tree) → StandsFor img t → (bytes : List ℕ) × (at t path ≡ Ok (File bytes)) × IsFile (files img i) bytes

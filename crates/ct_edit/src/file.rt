@@ -3,14 +3,11 @@ ghost use Rattle.std.specs.Prelude.{◌≡◌};
 ghost use Rattle.ct_call.specs.Mounted.{IsAtRest};
 ghost use Rattle.ct_edit.specs.Found.{FindsFile};
 
-use ct_base::Inode;
+use ct_base::{DIRECTORY_KIND, Inode};
 use ct_inode::get;
 use ct_path::{refusal_of, resolve};
 use ct_pm::Pm;
 use ct_tree::Refusal;
-
-/// The kind of a directory.
-const DIRECTORY: u64 = 2;
 
 /// The file to which a path leads, by its number and its inode. No step is made.
 ///
@@ -26,7 +23,7 @@ pub(crate) fn find_file<D: Pm>(dev: &D, path: &[u8]) -> Result<(u64, Inode), Ref
         Err(fault) => return Err(refusal_of(fault)),
     };
     let inode = get(dev, number);
-    if inode.kind == DIRECTORY {
+    if inode.kind == DIRECTORY_KIND {
         return Err(Refusal::IsDir);
     }
     Ok((number, inode))

@@ -1,5 +1,5 @@
 // What a write needs.
-ghost use Rattle.std.specs.Prelude.{◌≡◌, [], ℕ, ◌+◌, ◌%◌, ◌^◌, ◌<◌, ◌≤◌, ◌++◌, length};
+ghost use Rattle.std.specs.Prelude.{◌≡◌, [], ℕ, ◌+◌, ◌%◌, ◌<◌, ◌≤◌, ◌++◌, length};
 ghost use Rattle.ct_base.specs.Inode.{IsPart, part, part_bytes};
 ghost use Rattle.ct_base.specs.Plan.{give_up_wants as wants_of_give_up, grown, grows_to, stage, table_want, truncate_plan as plan_of_truncate, write_plan as plan_of_write};
 ghost use Rattle.ct_base.specs.Rules.{IsPlaced};
@@ -8,35 +8,26 @@ ghost use Rattle.ct_plan.specs.Few.{few_cut_wants, few_write_wants};
 ghost use Rattle.ct_call.specs.Plans.{Plans};
 ghost use Rattle.ct_edit.specs.Planned.{CanPlan};
 
-use ct_base::{Inode, Vaddr};
+use ct_base::{
+    ADDRESS_END, Inode, NO_PARTITION, PAGE_BYTES, SLOT_SPAN, STAGING_SLOT, TOP_LEVEL, Vaddr,
+};
 use ct_call::{CallPlan, Growth};
 use ct_grow::{Wants, growth_wants};
 use ct_header::pick;
 use ct_level::{length_of, level_for};
 use ct_plan::{side_wants, write_wants};
 use ct_pm::Pm;
+use ct_tree::checks::FILE_BYTES;
 use ct_walk::Want;
-
-/// The level of an inode that has no partition.
-const NO_PART: u64 = 15;
-
-/// The highest level of a partition.
-const TOP_LEVEL: u64 = 9;
-
-/// How many bytes a page has.
-const PAGE: u64 = 4096;
-
-/// How many bytes a root slot has.
-const SLOT: u64 = 549_755_813_888;
 
 /// The level to which an object grows that has to hold so many bytes, `None` where its partition holds them.
 pub(crate) fn growth_to(inode: &Inode, end: u64) -> Option<u32>
     requires placed { IsPlaced inode.now }
     requires some { 1 ≤ end }
-    requires fits { end ≤ 2 ^ 39 }
+    requires fits { end ≤ FILE_BYTES }
     ensures { result ≡ grows_to inode.now end }
 {
-    if inode.level != NO_PART && end <= length_of(inode.level as u32) {
+    if inode.level != NO_PARTITION && end <= length_of(inode.level as u32) {
         return None;
     }
     Some(level_for(end))
@@ -68,10 +59,10 @@ fn plan_with(growth: Growth, wants: Wants) -> CallPlan
 fn plan_in(growth: Growth, grown: Wants, inode: Inode, off: u64, len: u64, base: u64) -> CallPlan
     requires few { length grown ≤ 12 }
     requires some { 1 ≤ len }
-    requires old { inode.level ≤ 9 → inode.base + part_bytes inode.level ≤ 2 ^ 48 }
-    requires new { base + off + len ≤ 2 ^ 48 }
-    requires fits { off + len ≤ 2 ^ 39 }
-    requires aligned { base % 4096 ≡ 0 }
+    requires old { inode.level ≤ TOP_LEVEL → inode.base + part_bytes inode.level ≤ ADDRESS_END }
+    requires new { base + off + len ≤ ADDRESS_END }
+    requires fits { off + len ≤ FILE_BYTES }
+    requires aligned { base % PAGE_BYTES ≡ 0 }
     ensures growth { result.growth ≡ growth }
     ensures wants { (level : ℕ) → result.wants ≡ grown ++ few_write_wants inode off len (record { base = base; level = level }) }
 {
@@ -83,7 +74,7 @@ fn plan_in(growth: Growth, grown: Wants, inode: Inode, off: u64, len: u64, base:
 /// The plan of a write of so many bytes at an offset of a file.
 pub(crate) fn write_plan<D: Pm>(dev: &D, inode: Inode, off: u64, len: u64) -> CallPlan
     requires can { CanPlan (D.words dev.now) inode }
-    requires fits { off + len ≤ 2 ^ 39 }
+    requires fits { off + len ≤ FILE_BYTES }
     ensures { Plans (D.words dev.now) (plan_of_write (view (D.words dev.now)) (inode_count (D.words dev.now)) inode off len) result }
 {
     if len == 0 {
@@ -106,7 +97,7 @@ pub(crate) fn write_plan<D: Pm>(dev: &D, inode: Inode, off: u64, len: u64) -> Ca
 // The want of the table of a level, or of the page, at an address.
 fn want_at(level: u32, at: u64) -> Want
     requires level { level ≤ 4 }
-    requires low { at < 2 ^ 48 }
+    requires low { at < ADDRESS_END }
     ensures { result ≡ table_want level at }
 {
     match Vaddr::new(at) {
@@ -123,7 +114,7 @@ fn want_at(level: u32, at: u64) -> Want
 fn longer_plan<D: Pm>(dev: &D, inode: Inode, len: u64) -> CallPlan
     requires can { CanPlan (D.words dev.now) inode }
     requires some { 1 ≤ len }
-    requires fits { len ≤ 2 ^ 39 }
+    requires fits { len ≤ FILE_BYTES }
     ensures { Plans (D.words dev.now) (grown (view (D.words dev.now)) (inode_count (D.words dev.now)) inode (grows_to inode len) (λ new. [])) result }
 {
     let level = match growth_to(&inode, len) {
@@ -156,15 +147,15 @@ fn cut_wants(inode: Inode, len: u64) -> Wants
     requires less { len < part_bytes inode.level }
     ensures { result ≡ few_cut_wants inode len }
 {
-    let kept = len / PAGE;
-    let first = inode.base / PAGE + kept;
-    let second = staged(inode.base) / PAGE + kept;
+    let kept = len / PAGE_BYTES;
+    let first = inode.base / PAGE_BYTES + kept;
+    let second = staged(inode.base) / PAGE_BYTES + kept;
     let pages = 8u64.pow(inode.level as u32) - kept;
     let mut wants = Wants::new();
     push_all(&mut wants, &side_wants(first, second, pages));
     push_all(&mut wants, &side_wants(second, first, pages));
-    if len % PAGE != 0 {
-        wants.push(want_at(0, second * PAGE));
+    if len % PAGE_BYTES != 0 {
+        wants.push(want_at(0, second * PAGE_BYTES));
     }
     wants
 }
@@ -173,13 +164,13 @@ fn cut_wants(inode: Inode, len: u64) -> Wants
 fn staged(at: u64) -> u64
     ensures { result ≡ stage at }
 {
-    2 * SLOT + at % SLOT
+    STAGING_SLOT * SLOT_SPAN + at % SLOT_SPAN
 }
 
 /// The plan of a file that gets a length.
 pub(crate) fn truncate_plan<D: Pm>(dev: &D, inode: Inode, len: u64) -> CallPlan
     requires can { CanPlan (D.words dev.now) inode }
-    requires fits { len ≤ 2 ^ 39 }
+    requires fits { len ≤ FILE_BYTES }
     ensures { Plans (D.words dev.now) (plan_of_truncate (view (D.words dev.now)) (inode_count (D.words dev.now)) inode len) result }
 {
     if len > inode.size {

@@ -1,5 +1,5 @@
 // To set the length of a file.
-ghost use Rattle.std.specs.Prelude.{◌≡◌, ◌≢◌, ℕ, ◌+◌, ◌^◌, ◌<◌, ◌≤◌, length, Some, OnOk};
+ghost use Rattle.std.specs.Prelude.{◌≡◌, ◌≢◌, ℕ, ◌+◌, ◌<◌, ◌≤◌, length, Some, OnOk};
 ghost use Rattle.ct_base.specs.Causes.{HasCause};
 ghost use Rattle.ct_base.specs.Inode.{IsLive, inode as inode_at};
 ghost use Rattle.ct_base.specs.Plan.{truncate_plan as plan_of_truncate};
@@ -17,12 +17,14 @@ ghost use Rattle.ct_call.specs.Placed.{IsMoved};
 ghost use Rattle.ct_call.specs.Plans.{Fits, Plans, level_of};
 ghost use Rattle.ct_edit.specs.Changed.{Changes, ChangesOrNot};
 
+use ct_base::{FILE_KIND, MOST_CALL_PAIRS};
 use ct_call::{CallPlan, grow};
 use ct_cut::cut;
 use ct_frames::Frames;
 use ct_inode::get;
 use ct_pm::Pm;
 use ct_record::Broken;
+use ct_tree::checks::FILE_BYTES;
 use ct_write::lengthen;
 
 // Makes a file longer, by the plan of its length: it grows where it has to, and then its size is one record.
@@ -37,9 +39,9 @@ fn make_longer<D: Pm>(
     requires agrees { Agrees (D.words dev) frames.old }
     requires settled { NothingPending (D.told dev) }
     requires live { IsLive (view (D.words dev)) (inode_count (D.words dev)) file }
-    requires kind { (inode_at (view (D.words dev)) file).kind ≡ 1 }
+    requires kind { (inode_at (view (D.words dev)) file).kind ≡ FILE_KIND }
     requires more { (inode_at (view (D.words dev)) file).size < len }
-    requires within { len ≤ 2 ^ 39 }
+    requires within { len ≤ FILE_BYTES }
     requires plan { Plans (D.words dev) (plan_of_truncate (view (D.words dev)) (inode_count (D.words dev)) (inode_at (view (D.words dev)) file) len) plan.now }
     requires fits { Fits (D.words dev) frames.old plan.now }
 
@@ -52,7 +54,7 @@ fn make_longer<D: Pm>(
     ensures settled { OnOk result (NothingPending (D.told (device_behind result))) }
 
     // A crash at any moment lands on the objects as they were, or with the length.
-    ensures phase { Phase (ChangesOrNot (files (D.words dev)) file (resized len)) 5111 (D.told dev) (D.told (device_behind result)) (D.words (device_behind result)) }
+    ensures phase { Phase (ChangesOrNot (files (D.words dev)) file (resized len)) MOST_CALL_PAIRS (D.told dev) (D.told (device_behind result)) (D.words (device_behind result)) }
     ensures pages { HasPages (D.words (device_behind result)) }
     ensures cause { HasCause (D.faults dev) (D.faults (device_behind result)) result }
 {
@@ -78,7 +80,7 @@ fn make_shorter<D: Pm>(
     requires agrees { Agrees (D.words dev) frames.old }
     requires settled { NothingPending (D.told dev) }
     requires live { IsLive (view (D.words dev)) (inode_count (D.words dev)) file }
-    requires kind { (inode_at (view (D.words dev)) file).kind ≡ 1 }
+    requires kind { (inode_at (view (D.words dev)) file).kind ≡ FILE_KIND }
     requires less { len < (inode_at (view (D.words dev)) file).size }
     requires plan { Plans (D.words dev) (plan_of_truncate (view (D.words dev)) (inode_count (D.words dev)) (inode_at (view (D.words dev)) file) len) plan.now }
     requires fits { Fits (D.words dev) frames.old plan.now }
@@ -92,7 +94,7 @@ fn make_shorter<D: Pm>(
     ensures settled { OnOk result (NothingPending (D.told (device_behind result))) }
 
     // A crash at any moment lands on the objects as they were, or with the length.
-    ensures phase { Phase (ChangesOrNot (files (D.words dev)) file (resized len)) 5111 (D.told dev) (D.told (device_behind result)) (D.words (device_behind result)) }
+    ensures phase { Phase (ChangesOrNot (files (D.words dev)) file (resized len)) MOST_CALL_PAIRS (D.told dev) (D.told (device_behind result)) (D.words (device_behind result)) }
     ensures pages { HasPages (D.words (device_behind result)) }
     ensures cause { HasCause (D.faults dev) (D.faults (device_behind result)) result }
 {
@@ -114,8 +116,8 @@ pub(crate) fn resize_file<D: Pm>(
     requires agrees { Agrees (D.words dev) frames.old }
     requires settled { NothingPending (D.told dev) }
     requires live { IsLive (view (D.words dev)) (inode_count (D.words dev)) file }
-    requires kind { (inode_at (view (D.words dev)) file).kind ≡ 1 }
-    requires within { len ≤ 2 ^ 39 }
+    requires kind { (inode_at (view (D.words dev)) file).kind ≡ FILE_KIND }
+    requires within { len ≤ FILE_BYTES }
     requires plan { Plans (D.words dev) (plan_of_truncate (view (D.words dev)) (inode_count (D.words dev)) (inode_at (view (D.words dev)) file) len) plan.now }
     requires fits { Fits (D.words dev) frames.old plan.now }
 
@@ -128,7 +130,7 @@ pub(crate) fn resize_file<D: Pm>(
     ensures settled { OnOk result (NothingPending (D.told (device_behind result))) }
 
     // A crash at any moment lands on the objects as they were, or with the length.
-    ensures phase { Phase (ChangesOrNot (files (D.words dev)) file (resized len)) 5111 (D.told dev) (D.told (device_behind result)) (D.words (device_behind result)) }
+    ensures phase { Phase (ChangesOrNot (files (D.words dev)) file (resized len)) MOST_CALL_PAIRS (D.told dev) (D.told (device_behind result)) (D.words (device_behind result)) }
     ensures pages { HasPages (D.words (device_behind result)) }
     ensures cause { HasCause (D.faults dev) (D.faults (device_behind result)) result }
 {

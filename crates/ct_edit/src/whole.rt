@@ -1,5 +1,5 @@
 // A call on a file: it is found, planned and refused without a step, and then carried out.
-ghost use Rattle.std.specs.Prelude.{◌≡◌, ◌≢◌, ◌↔◌, ℕ, ◌+◌, ◌^◌, ◌≤◌, length, Some, Err, IfOk, IsSomeAnd, IsTrue, OnOk};
+ghost use Rattle.std.specs.Prelude.{◌≡◌, ◌≢◌, ◌↔◌, ℕ, ◌+◌, ◌≤◌, length, Some, Err, IfOk, IsSomeAnd, IsTrue, OnOk};
 ghost use Rattle.ct_base.specs.Causes.{HasCause};
 ghost use Rattle.ct_base.specs.Free.{HasFreePages};
 ghost use Rattle.ct_base.specs.Inode.{IsLive, inode as inode_at};
@@ -28,31 +28,29 @@ use crate::file::find_file;
 use crate::plan::{truncate_plan, write_plan};
 use crate::truncate::resize_file;
 use crate::write::write_file;
-use ct_base::Inode;
+use ct_base::{FILE_KIND, Inode, MOST_CALL_PAIRS};
 use ct_call::{CallPlan, Failed, FsError, Mounted, State, check_space};
 use ct_frames::Frames;
 use ct_pm::Pm;
 use ct_record::Broken;
 use ct_tree::Refusal;
+use ct_tree::checks::FILE_BYTES;
 use ct_write::len_of;
-
-/// The most bytes that a file may have.
-const FILE_LIMIT: u64 = 549_755_813_888;
 
 // Whether a file may end there.
 fn is_within(task: Task<'_>) -> bool
-    ensures { IsTrue result ↔ (task_end task.entry ≤ 2 ^ 39) }
+    ensures { IsTrue result ↔ (task_end task.entry ≤ FILE_BYTES) }
 {
     match task {
-        Task::Write { off, what } => off <= FILE_LIMIT && len_of(what) <= FILE_LIMIT - off,
-        Task::Resize { len } => len <= FILE_LIMIT,
+        Task::Write { off, what } => off <= FILE_BYTES && len_of(what) <= FILE_BYTES - off,
+        Task::Resize { len } => len <= FILE_BYTES,
     }
 }
 
 // The plan for a file.
 fn task_plan<D: Pm>(dev: &D, inode: Inode, task: Task<'_>) -> CallPlan
     requires can { CanPlan (D.words dev.now) inode }
-    requires within { task_end task ≤ 2 ^ 39 }
+    requires within { task_end task ≤ FILE_BYTES }
     ensures { Plans (D.words dev.now) (plan_of_task (view (D.words dev.now)) (inode_count (D.words dev.now)) inode task.entry) result }
 {
     match task {
@@ -73,7 +71,7 @@ fn prepare<'e, D: Pm>(
     ensures answer { (t : Tree) → StandsFor (D.words dev.now) t → IsPrepared (D.words dev.now) t (edit_op path.now edit.entry) result }
     ensures file { IfOk result (λ found. IsFileAt (D.words dev.now) path.now found.0 (inode_at (view (D.words dev.now)) found.0)) }
     ensures task { IfOk result (λ found. found.1 ≡ task_by edit.entry (inode_at (view (D.words dev.now)) found.0).size) }
-    ensures within { IfOk result (λ found. task_end found.1 ≤ 2 ^ 39) }
+    ensures within { IfOk result (λ found. task_end found.1 ≤ FILE_BYTES) }
     ensures plan { IfOk result (λ found. Plans (D.words dev.now)
         (plan_of_task (view (D.words dev.now)) (inode_count (D.words dev.now)) (inode_at (view (D.words dev.now)) found.0) found.1) found.2) }
     ensures fits { IfOk result (λ found. Fits (D.words dev.now) frames.now found.2) }
@@ -106,8 +104,8 @@ fn carry_out<D: Pm>(
     requires agrees { Agrees (D.words dev) frames.old }
     requires settled { NothingPending (D.told dev) }
     requires live { IsLive (view (D.words dev)) (inode_count (D.words dev)) file }
-    requires kind { (inode_at (view (D.words dev)) file).kind ≡ 1 }
-    requires within { task_end task ≤ 2 ^ 39 }
+    requires kind { (inode_at (view (D.words dev)) file).kind ≡ FILE_KIND }
+    requires within { task_end task ≤ FILE_BYTES }
     requires plan { Plans (D.words dev) (plan_of_task (view (D.words dev)) (inode_count (D.words dev)) (inode_at (view (D.words dev)) file) task) plan.now }
     requires fits { Fits (D.words dev) frames.old plan.now }
 
@@ -120,7 +118,7 @@ fn carry_out<D: Pm>(
     ensures settled { OnOk result (NothingPending (D.told (device_behind result))) }
 
     // A crash at any moment lands on the objects as they were, or with the change.
-    ensures phase { Phase (ChangesOrNot (files (D.words dev)) file (task_change task.entry)) 5111 (D.told dev) (D.told (device_behind result)) (D.words (device_behind result)) }
+    ensures phase { Phase (ChangesOrNot (files (D.words dev)) file (task_change task.entry)) MOST_CALL_PAIRS (D.told dev) (D.told (device_behind result)) (D.words (device_behind result)) }
     ensures pages { HasPages (D.words (device_behind result)) }
     ensures cause { HasCause (D.faults dev) (D.faults (device_behind result)) result }
 {

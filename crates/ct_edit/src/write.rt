@@ -1,5 +1,5 @@
 // To write to a file.
-ghost use Rattle.std.specs.Prelude.{◌≡◌, ℕ, ◌+◌, ◌^◌, ◌≤◌, length, Some, OnOk};
+ghost use Rattle.std.specs.Prelude.{◌≡◌, ℕ, ◌+◌, ◌≤◌, length, Some, OnOk};
 ghost use Rattle.ct_base.specs.Causes.{HasCause};
 ghost use Rattle.ct_base.specs.Inode.{IsLive, inode as inode_at};
 ghost use Rattle.ct_base.specs.Plan.{write_plan as plan_of_write};
@@ -18,10 +18,12 @@ ghost use Rattle.ct_call.specs.Plans.{Fits, Plans, level_of};
 ghost use Rattle.ct_edit.specs.Changed.{Changes, ChangesOrNot};
 ghost use Rattle.ct_edit.specs.Edits.{written_from};
 
+use ct_base::{FILE_KIND, MOST_CALL_PAIRS};
 use ct_call::{CallPlan, grow};
 use ct_frames::Frames;
 use ct_pm::Pm;
 use ct_record::Broken;
+use ct_tree::checks::FILE_BYTES;
 use ct_write::{Data, commit_write, len_of};
 
 // Writes data to a file from an offset on, by the plan of the write: the file grows where it has to, and then the write is one
@@ -38,8 +40,8 @@ pub(crate) fn write_file<D: Pm>(
     requires agrees { Agrees (D.words dev) frames.old }
     requires settled { NothingPending (D.told dev) }
     requires live { IsLive (view (D.words dev)) (inode_count (D.words dev)) file }
-    requires kind { (inode_at (view (D.words dev)) file).kind ≡ 1 }
-    requires within { off + data_len what ≤ 2 ^ 39 }
+    requires kind { (inode_at (view (D.words dev)) file).kind ≡ FILE_KIND }
+    requires within { off + data_len what ≤ FILE_BYTES }
     requires plan { Plans (D.words dev) (plan_of_write (view (D.words dev)) (inode_count (D.words dev)) (inode_at (view (D.words dev)) file) off (data_len what)) plan.now }
     requires fits { Fits (D.words dev) frames.old plan.now }
 
@@ -53,7 +55,7 @@ pub(crate) fn write_file<D: Pm>(
     ensures settled { OnOk result (NothingPending (D.told (device_behind result))) }
 
     // A crash at any moment lands on the objects as they were, or with the write.
-    ensures phase { Phase (ChangesOrNot (files (D.words dev)) file (written_from off what.entry)) 5111 (D.told dev) (D.told (device_behind result)) (D.words (device_behind result)) }
+    ensures phase { Phase (ChangesOrNot (files (D.words dev)) file (written_from off what.entry)) MOST_CALL_PAIRS (D.told dev) (D.told (device_behind result)) (D.words (device_behind result)) }
     ensures pages { HasPages (D.words (device_behind result)) }
     ensures cause { HasCause (D.faults dev) (D.faults (device_behind result)) result }
 {

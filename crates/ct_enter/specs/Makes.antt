@@ -3,6 +3,7 @@ use Rattle.std.specs.Prelude.{◌≡◌, ◌≢◌, ℕ, true, List}
 use Rattle.ct_base.specs.Named.{Leads}
 use Rattle.ct_base.specs.Path.{is_name}
 use Rattle.ct_base.specs.Slots.{IsSlot, slot_name}
+use Rattle.ct_base.specs.declared.layout.TheConstants.{DIRECTORY_KIND, FILE_KIND}
 use Rattle.ct_tree.specs.Lands.{files}
 use Rattle.ct_tree.specs.Step.{Op, create, mkdir}
 use Rattle.ct_tree.specs.Tree.{Tree}
@@ -18,8 +19,8 @@ make_op directory path = mkdir path
 
 -- the kind that its inode has
 abbrev pub kind_of : Kind → ℕ
-kind_of file = 1
-kind_of directory = 2
+kind_of file = FILE_KIND
+kind_of directory = DIRECTORY_KIND
 
 -- a name that no slot of the directory has
 pub record IsFreshName (img : List ℕ) (dir : ℕ) (name : List ℕ) : Type 0 where

@@ -6,6 +6,7 @@ use Rattle.ct_base.specs.Inode.{inode, IsLive}
 use Rattle.ct_base.specs.Path.{is_name}
 use Rattle.ct_base.specs.Slots.{IsSlot, free_slot, slot_name}
 use Rattle.ct_base.specs.View.{view, inode_count}
+use Rattle.ct_base.specs.declared.layout.TheConstants.{DIRECTORY_KIND, ENTRY_BYTES}
 use Rattle.ct_tree.specs.Checks.{names}
 use Rattle.ct_tree.specs.Lands.{files}
 use Rattle.ct_tree.specs.Need.{IsParentAt}
@@ -18,8 +19,8 @@ use Rattle.ct_tree.specs.declared.call.Refusal.{Refusal}
 pub record IsNextSlot (img : List ℕ) (dir : ℕ) (f : Inode) (offset : ℕ) : Type 0 where
   pub live : IsLive (view img) (inode_count img) dir
   pub is : inode (view img) dir ≡ f
-  pub kind : f.kind ≡ 2
-  pub aligned : offset % 256 ≡ 0
+  pub kind : f.kind ≡ DIRECTORY_KIND
+  pub aligned : offset % ENTRY_BYTES ≡ 0
   pub within : offset ≤ f.size
   pub first : offset ≡ free_slot (files img dir)
 

@@ -27,6 +27,7 @@ ghost use Rattle.ct_enter.specs.Spots.{IsNewName, IsNextSlot};
 use crate::enter::enter;
 use crate::plan::entry_plan;
 use crate::spot::{Spot, find_spot};
+use ct_base::{DIRECTORY_KIND, FILE_KIND, MOST_GROWTH_PAIRS};
 use ct_call::{CallPlan, Failed, FsError, Mounted, State, check_space, room};
 use ct_frames::Frames;
 use ct_inode::{first_free, get};
@@ -50,8 +51,8 @@ impl Kind {
         ensures { result ≡ kind_of self }
     {
         match self {
-            Kind::File => 1,
-            Kind::Directory => 2,
+            Kind::File => FILE_KIND,
+            Kind::Directory => DIRECTORY_KIND,
         }
     }
 }
@@ -103,7 +104,7 @@ fn carry_out<D: Pm>(
     requires first { first_free_number (view (D.words dev)) (inode_count (D.words dev)) ≡ Some number }
     requires plan { IsEntryPlan (D.words dev) spot.now.inode spot.now.offset number plan.now }
     requires fits { Fits (D.words dev) frames.old plan.now }
-    requires sort { (kind ≡ 1) ⊎ (kind ≡ 2) }
+    requires sort { (kind ≡ FILE_KIND) ⊎ (kind ≡ DIRECTORY_KIND) }
 
     ensures slot { OnOk result (HasSlot (files (D.words (device_behind result)) spot.now.dir) spot.now.offset number spot.now.name.now) }
     ensures moved { OnOk result ((level : ℕ) → level_of plan.now.growth ≡ Some level → IsMoved (λ v. ⊥) (D.words dev) (D.words (device_behind result)) spot.now.dir level) }
@@ -115,19 +116,14 @@ fn carry_out<D: Pm>(
     ensures settled { OnOk result (NothingPending (D.told (device_behind result))) }
 
     // A crash at any moment lands on the objects without the new one, or on those with it.
-    ensures phase { Phase (EntersOrNot (files (D.words dev)) spot.now.dir spot.now.name.now kind) 150 (D.told dev) (D.told (device_behind result)) (D.words (device_behind result)) }
+    ensures phase { Phase (EntersOrNot (files (D.words dev)) spot.now.dir spot.now.name.now kind) MOST_GROWTH_PAIRS (D.told dev) (D.told (device_behind result)) (D.words (device_behind result)) }
     ensures pages { HasPages (D.words (device_behind result)) }
     ensures cause { HasCause (D.faults dev) (D.faults (device_behind result)) result }
 {
-    let dev = match room(dev, frames, spot.dir, plan) {
-        Ok(dev) => dev,
-        Err(broken) => return Err(broken),
-    };
+    let dev = room(dev, frames, spot.dir, plan)?;
     let there = Spot {
-        dir: spot.dir,
         inode: get(&dev, spot.dir),
-        offset: spot.offset,
-        name: spot.name,
+        ..*spot
     };
     match enter(dev, &there, number, kind) {
         Ok(dev) => Ok(dev),

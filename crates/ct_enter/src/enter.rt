@@ -17,25 +17,25 @@ ghost use Rattle.ct_enter.specs.Entry.{HasEntry, KeepsPart, IsEntryWord, IsFreeI
 ghost use Rattle.ct_call.specs.Placed.{HasSlot};
 
 use crate::spot::Spot;
-use ct_base::Inode;
+use ct_base::{
+    DIRECTORY_KIND, ENTRY_BYTES, FILE_KIND, INODE_BYTES, Inode, MOST_INODES, MOST_LONG_PAIRS,
+    NO_PARTITION, PAGE_BYTES,
+};
 use ct_dir::set;
 use ct_inode::put;
 use ct_pm::{Pm, PmFault};
 use ct_record::{Broken, Draft, Idle, conclude};
 use ct_words::put_words;
 
-/// How many bytes a slot has.
-const SLOT_BYTES: u64 = 256;
-
-/// The level of an object that has no partition.
-const NO_LEVEL: u64 = 15;
+/// The most pairs of an entry: the words of a slot and of an inode, and the size of the directory.
+const MOST_ENTRY_PAIRS: u64 = 41;
 
 /// Drafts another size of a directory, where it is greater than the one it has.
 pub fn raise_size<D: Pm>(draft: &mut Draft<D>, dir: u64, from: u64, to: u64) -> Result<(), PmFault>
     requires tables { AreTables (words_under draft.old) }
-    requires counted { dir ≤ 1048576 }
-    requires there { page_at (words_under draft.old) 4 (64 * dir / 4096) ≢ 0 }
-    requires room { count_of draft.old < 8184 }
+    requires counted { dir ≤ MOST_INODES }
+    requires there { page_at (words_under draft.old) 4 (INODE_BYTES * dir / PAGE_BYTES) ≢ 0 }
+    requires room { count_of draft.old < MOST_LONG_PAIRS }
 
     ensures raises { OnOk result (MapsAlike 0 (words_under draft.old) (drafted draft.old)
         → RaisesSize (drafted draft.old) (drafted draft.new) dir from to) }
@@ -53,7 +53,7 @@ pub fn raise_size<D: Pm>(draft: &mut Draft<D>, dir: u64, from: u64, to: u64) -> 
     if to <= from {
         return Ok(());
     }
-    put_words(draft, 64 * dir + 8, &[to])?;
+    put_words(draft, INODE_BYTES * dir + 8, &[to])?;
     Ok(())
 }
 
@@ -70,7 +70,7 @@ fn draft_entry<D: Pm>(
     requires rest { IsAtRest (words_under draft.old) }
     requires spot { IsSpot (words_under draft.old) dir inode offset name.now }
     requires unused { IsFreeInode (words_under draft.old) number }
-    requires sort { (kind ≡ 1) ⊎ (kind ≡ 2) }
+    requires sort { (kind ≡ FILE_KIND) ⊎ (kind ≡ DIRECTORY_KIND) }
     requires begun { pairs_of draft.old ≡ [] }
     requires none { count_of draft.old ≡ 0 }
 
@@ -80,17 +80,17 @@ fn draft_entry<D: Pm>(
         → IsEntryWord (words_under draft.old) dir inode offset number word) }
     ensures bytes { OnOk result ((k : ℕ) → slice_index name.now k < 256) }
     ensures some { OnOk result (0 < count_of draft.new) }
-    ensures few { OnOk result (count_of draft.new ≤ 41) }
+    ensures few { OnOk result (count_of draft.new ≤ MOST_ENTRY_PAIRS) }
     ensures drafts { Drafts draft.old draft.new }
     ensures cause { HasCause (faults_under draft.old) (faults_under draft.new) result }
 {
     set(draft, inode, offset, number, name)?;
-    raise_size(draft, dir, inode.size, offset + SLOT_BYTES)?;
+    raise_size(draft, dir, inode.size, offset + ENTRY_BYTES)?;
     let empty = Inode {
         kind,
         size: 0,
         base: 0,
-        level: NO_LEVEL,
+        level: NO_PARTITION,
     };
     put(draft, number, empty)?;
     Ok(())
@@ -98,8 +98,8 @@ fn draft_entry<D: Pm>(
 
 /// Enters a new object under a name, as one record: its slot, its inode, and the directory's size where it rises.
 ///
-/// The object is an empty file where `kind` is 1, and an empty directory where it is 2. Its inode, `number`, is free and
-/// mapped, and so is the slot.
+/// The object is an empty file where `kind` is `FILE_KIND`, and an empty directory where it is `DIRECTORY_KIND`. Its inode,
+/// `number`, is free and mapped, and so is the slot.
 ///
 /// # Errors
 ///
@@ -109,7 +109,7 @@ pub(crate) fn enter<D: Pm>(dev: D, spot: &Spot<'_>, number: u64, kind: u64) -> R
     requires settled { NothingPending (D.told dev) }
     requires spot { IsSpot (D.words dev) spot.now.dir spot.now.inode spot.now.offset spot.now.name.now }
     requires unused { IsFreeInode (D.words dev) number }
-    requires sort { (kind ≡ 1) ⊎ (kind ≡ 2) }
+    requires sort { (kind ≡ FILE_KIND) ⊎ (kind ≡ DIRECTORY_KIND) }
 
     // After Ok the words stand for the tree with the object, and no table changed.
     ensures rest { OnOk result (IsAtRest (D.words (device_behind result))) }
@@ -120,7 +120,7 @@ pub(crate) fn enter<D: Pm>(dev: D, spot: &Spot<'_>, number: u64, kind: u64) -> R
     ensures settled { OnOk result (NothingPending (D.told (device_behind result))) }
 
     // A crash at any moment lands on the objects without the new one, or on those with it.
-    ensures phase { Phase (EntersOrNot (files (D.words dev)) spot.now.dir spot.now.name.now kind) 41 (D.told dev) (D.told (device_behind result)) (D.words (device_behind result)) }
+    ensures phase { Phase (EntersOrNot (files (D.words dev)) spot.now.dir spot.now.name.now kind) MOST_ENTRY_PAIRS (D.told dev) (D.told (device_behind result)) (D.words (device_behind result)) }
 
     // Off pages 1 to 32 only words of the slot, of the inode and of the directory's size are stored to.
     ensures made { MakesOnly (λ word value. InRecord word ⊎ IsEntryWord (D.words dev) spot.now.dir spot.now.inode spot.now.offset number word)

@@ -4,6 +4,7 @@ use Rattle.std.specs.declared.option.Option.{Option}
 use Rattle.std.specs.declared.result.Result.{Result}
 use Rattle.ct_base.specs.Inode.{inode, IsLive}
 use Rattle.ct_base.specs.View.{view, inode_count}
+use Rattle.ct_base.specs.declared.layout.TheConstants.{FILE_KIND, PAGE_BYTES}
 use Rattle.ct_path.specs.Resolves.{refusal_of}
 use Rattle.ct_path.specs.declared.fault.PathFault.{PathFault}
 use Rattle.ct_path.specs.declared.fault.PathFault.TheVariants.{BadPath, NotFound, NotDir}
@@ -22,7 +23,7 @@ pub record IsFileAt (img : List ℕ) (path : List ℕ) (i : ℕ) : Type 0 where
   pub valid : bad_path path ≡ None
   pub leads : IsAt img path i
   pub live : IsLive (view img) (inode_count img) i
-  pub file : (inode (view img) i).kind ≡ 1
+  pub file : (inode (view img) i).kind ≡ FILE_KIND
   pub node : (t : Tree) → StandsFor img t → (bytes : List ℕ) × (at t path ≡ Ok (File bytes)) × IsFile (files img i) bytes
 
 -- what two paths lead to, or the refusal: no path comes before what leads nowhere, and the first path before the second
@@ -43,7 +44,7 @@ path_checks t path other more =
 -- the numbers are multiples of a page, and both ranges end within files of these sizes
 abbrev pub are_whole : ℕ → ℕ → ℕ → ℕ → ℕ → Bool
 are_whole size off other_size other_off len =
-    (off % 4096 == 0) && (other_off % 4096 == 0) && (len % 4096 == 0) && nat_le (off + len) size && nat_le (other_off + len) other_size
+    (off % PAGE_BYTES == 0) && (other_off % PAGE_BYTES == 0) && (len % PAGE_BYTES == 0) && nat_le (off + len) size && nat_le (other_off + len) other_size
 
 -- the checks of the numbers, in their order
 abbrev pub number_checks : List ℕ → ℕ → ℕ → List ℕ → ℕ → ℕ → ℕ → List (Option Refusal)

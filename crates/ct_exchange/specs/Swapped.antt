@@ -1,10 +1,11 @@
 -- What an image has after an exchange.
-use Rattle.std.specs.Prelude.{◌≡◌, ◌⊎◌, ℕ, ◌+◌, ◌*◌, ◌/◌, ◌^◌, ◌<◌, ◌≤◌, List}
+use Rattle.std.specs.Prelude.{◌≡◌, ◌⊎◌, ℕ, ◌+◌, ◌*◌, ◌/◌, ◌<◌, ◌≤◌, List}
 use Rattle.ct_base.specs.Exchange.{partner}
 use Rattle.ct_base.specs.Inode.{inode}
 use Rattle.ct_base.specs.Objects.{Object, objects}
 use Rattle.ct_base.specs.View.{view, inode_count}
 use Rattle.ct_base.specs.Walk.{page_at, walk}
+use Rattle.ct_base.specs.declared.layout.TheConstants.{ADDRESS_END, PAGE_BYTES, PARTITION_SLOT, SLOT_SPAN}
 use Rattle.ct_tree.specs.Lands.{files}
 use Rattle.ct_tree.specs.Need.{IsAt}
 use Rattle.ct_call.specs.Landing.{LandsAs}
@@ -25,11 +26,11 @@ SwapsOrNot img r image = LandsAs (files img) image ⊎ LandsAs (files_after img 
 
 -- the pages of the two ranges have changed places, and no other
 abbrev pub HasSwapped : List ℕ → List ℕ → Ranges → Type 0
-HasSwapped old new r = (p : ℕ) → page_at new 4 p ≡ page_at old 4 (partner (first_page old r) (second_page old r) (r.len / 4096) p)
+HasSwapped old new r = (p : ℕ) → page_at new 4 p ≡ page_at old 4 (partner (first_page old r) (second_page old r) (r.len / PAGE_BYTES) p)
 
 -- The walks in root slots 10 to 511 are those before, but that those of the two ranges have changed places: the files are where
 -- the paths lead.
 abbrev pub SwapsWalks : List ℕ → List ℕ → List ℕ → ℕ → List ℕ → ℕ → ℕ → Type 0
 SwapsWalks old new path off other other_off len =
-    (i j : ℕ) → IsAt old path i → IsAt old other j → (v : ℕ) → 10 * 2 ^ 39 ≤ v → v < 2 ^ 48
+    (i j : ℕ) → IsAt old path i → IsAt old other j → (v : ℕ) → PARTITION_SLOT * SLOT_SPAN ≤ v → v < ADDRESS_END
     → walk new v ≡ walk old (partner ((inode (view old) i).base + off) ((inode (view old) j).base + other_off) len v)

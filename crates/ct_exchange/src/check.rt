@@ -9,19 +9,12 @@ ghost use Rattle.ct_call.specs.Calls.{StandsFor};
 ghost use Rattle.ct_call.specs.Mounted.{IsAtRest};
 ghost use Rattle.ct_exchange.specs.Found.{IsFileAt, found_both, number_checks, path_checks};
 
+use ct_base::{DIRECTORY_KIND, PAGE_BYTES};
 use ct_inode::get;
 use ct_path::{PathFault, refusal_of, resolve};
 use ct_pm::Pm;
 use ct_tree::Refusal;
-
-/// The kind of a directory.
-const DIRECTORY: u64 = 2;
-
-/// How many bytes a page has.
-const PAGE: u64 = 4096;
-
-/// The longest exchange, in bytes.
-const MOST: u64 = 16_384_000;
+use ct_tree::checks::EXCHANGE_BYTES;
 
 // What two paths lead to, or why one of them leads nowhere.
 fn both(
@@ -50,10 +43,10 @@ pub(crate) fn two_files<D: Pm>(dev: &D, path: &[u8], other: &[u8]) -> Result<(u6
         Ok(found) => found,
         Err(refusal) => return Err(refusal),
     };
-    if get(dev, first).kind == DIRECTORY {
+    if get(dev, first).kind == DIRECTORY_KIND {
         return Err(Refusal::IsDir);
     }
-    if get(dev, second).kind == DIRECTORY {
+    if get(dev, second).kind == DIRECTORY_KIND {
         return Err(Refusal::IsDir);
     }
     Ok((first, second))
@@ -78,7 +71,7 @@ pub(crate) fn check_numbers(
 ) -> Result<(), Refusal>
     ensures { Passes result (first_of (number_checks path.now size off other.now other_size other_off len)) }
 {
-    if off % PAGE != 0 || other_off % PAGE != 0 || len % PAGE != 0 {
+    if off % PAGE_BYTES != 0 || other_off % PAGE_BYTES != 0 || len % PAGE_BYTES != 0 {
         return Err(Refusal::BadRange);
     }
     if !ends_within(size, off, len) || !ends_within(other_size, other_off, len) {
@@ -87,7 +80,7 @@ pub(crate) fn check_numbers(
     if path == other && off.abs_diff(other_off) < len {
         return Err(Refusal::Overlap);
     }
-    if len > MOST {
+    if len > EXCHANGE_BYTES {
         return Err(Refusal::TooLong);
     }
     Ok(())

@@ -24,6 +24,7 @@ ghost use Rattle.ct_exchange.specs.Swapped.{HasSwapped, SwapsOrNot, SwapsWalks, 
 
 use crate::check::{check_numbers, two_files};
 use crate::plan::Ranges;
+use ct_base::MOST_EXCHANGE_PAIRS;
 use ct_call::{CallPlan, Failed, FsError, Mounted, State, check_space, make_pages};
 use ct_frames::Frames;
 use ct_inode::get;
@@ -54,16 +55,10 @@ fn prepare<D: Pm>(
     ensures need { IfOk result (λ found. (need : ℕ) → HasNeed (D.words dev.now) (exchange path.now off other.now other_off len) need → need ≡ missing (D.words dev.now) found.1.wants) }
     ensures counted { OnOk result ((count : ℕ) → HasFreePages (D.words dev.now) count → count ≡ length frames.now.free) }
 {
-    let (first, second) = match two_files(dev, path, other) {
-        Ok(found) => found,
-        Err(refusal) => return Err(refusal),
-    };
+    let (first, second) = two_files(dev, path, other)?;
     let size = get(dev, first).size;
     let other_size = get(dev, second).size;
-    match check_numbers(path, size, off, other, other_size, other_off, len) {
-        Ok(()) => {}
-        Err(refusal) => return Err(refusal),
-    }
+    check_numbers(path, size, off, other, other_size, other_off, len)?;
     let ranges = Ranges {
         first,
         off,
@@ -101,7 +96,7 @@ fn carry_out<D: Pm>(
     ensures settled { OnOk result (NothingPending (D.told (device_behind result))) }
 
     // A crash at any moment lands on the objects before the exchange, or on those after it.
-    ensures phase { Phase (SwapsOrNot (D.words dev) ranges.now) 8000 (D.told dev) (D.told (device_behind result)) (D.words (device_behind result)) }
+    ensures phase { Phase (SwapsOrNot (D.words dev) ranges.now) MOST_EXCHANGE_PAIRS (D.told dev) (D.told (device_behind result)) (D.words (device_behind result)) }
     ensures held { HasPages (D.words (device_behind result)) }
     ensures cause { HasCause (D.faults dev) (D.faults (device_behind result)) result }
 {

@@ -1,16 +1,14 @@
 // What an exchange asks for.
-ghost use Rattle.std.specs.Prelude.{◌≡◌, ◌+◌, ◌/◌, ◌^◌, ◌≤◌};
+ghost use Rattle.std.specs.Prelude.{◌≡◌, ◌+◌, ◌*◌, ◌/◌, ◌≤◌};
 ghost use Rattle.ct_plan.specs.Few.{few_both_wants};
 ghost use Rattle.ct_call.specs.Mounted.{IsAtRest};
 
+use ct_base::{PAGE_BYTES, SLOT_PAGES, TABLE_ENTRIES};
 use ct_call::{CallPlan, Growth};
 use ct_grow::Wants;
 use ct_inode::get;
 use ct_plan::side_wants;
 use ct_pm::Pm;
-
-/// How many bytes a page has.
-const PAGE: u64 = 4096;
 
 /// Two ranges of as many bytes: each begins at an offset of a file, which is known by its number.
 #[derive(Clone, Copy, Debug, PartialEq, Eq)]
@@ -31,14 +29,14 @@ impl Ranges {
         requires can { AreApart (D.words dev.now) self.now }
         ensures first { result.0 ≡ first_page (D.words dev.now) self.now }
         ensures second { result.1 ≡ second_page (D.words dev.now) self.now }
-        ensures count { result.2 ≡ self.now.len / 4096 }
+        ensures count { result.2 ≡ self.now.len / PAGE_BYTES }
     {
         let first = get(dev, self.first);
         let second = get(dev, self.second);
         (
-            (first.base + self.off) / PAGE,
-            (second.base + self.other_off) / PAGE,
-            self.len / PAGE,
+            (first.base + self.off) / PAGE_BYTES,
+            (second.base + self.other_off) / PAGE_BYTES,
+            self.len / PAGE_BYTES,
         )
     }
 
@@ -66,8 +64,8 @@ impl Ranges {
 // The tables on both sides of an exchange of `n` pages.
 fn both_sides(a: u64, b: u64, n: u64) -> Wants
     requires some { 1 ≤ n }
-    requires first { a + n ≤ 2 ^ 36 }
-    requires second { b + n ≤ 2 ^ 36 }
+    requires first { a + n ≤ TABLE_ENTRIES * SLOT_PAGES }
+    requires second { b + n ≤ TABLE_ENTRIES * SLOT_PAGES }
     ensures { result ≡ few_both_wants a b n }
 {
     let first = side_wants(a, b, n);

@@ -5,6 +5,7 @@ use Rattle.ct_base.specs.Named.{Leads}
 use Rattle.ct_base.specs.Objects.{Object}
 use Rattle.ct_base.specs.Path.{names_of}
 use Rattle.ct_base.specs.Slots.{IsSlot, slot_inode}
+use Rattle.ct_base.specs.declared.layout.TheConstants.{DIRECTORY_KIND}
 use Rattle.ct_state.specs.Forest.{Entered}
 use Rattle.ct_tree.specs.Checks.{at, bad_path, first_of, names, no_node}
 use Rattle.ct_tree.specs.Lands.{files}
@@ -44,7 +45,7 @@ pub record IsLeaf (fs : ℕ → Object) (dir offset number : ℕ) : Type 0 where
 
 -- an object that a call for a kind may remove, by what it is: no directory, or one without slots
 abbrev pub IsFit : {T : Type 0} → Object → Kind → Result T Refusal → Type 0
-IsFit f file (Ok x) = f.kind ≢ 2
-IsFit f file (Err r) = (f.kind ≡ 2) × (r ≡ IsDir)
-IsFit f directory (Ok x) = (f.kind ≡ 2) × ((k : ℕ) → IsSlot f k → ⊥)
-IsFit f directory (Err r) = ((f.kind ≢ 2) × (r ≡ NotDir)) ⊎ ((f.kind ≡ 2) × (o : ℕ) × IsSlot f o × (r ≡ NotEmpty))
+IsFit f file (Ok x) = f.kind ≢ DIRECTORY_KIND
+IsFit f file (Err r) = (f.kind ≡ DIRECTORY_KIND) × (r ≡ IsDir)
+IsFit f directory (Ok x) = (f.kind ≡ DIRECTORY_KIND) × ((k : ℕ) → IsSlot f k → ⊥)
+IsFit f directory (Err r) = ((f.kind ≢ DIRECTORY_KIND) × (r ≡ NotDir)) ⊎ ((f.kind ≡ DIRECTORY_KIND) × (o : ℕ) × IsSlot f o × (r ≡ NotEmpty))

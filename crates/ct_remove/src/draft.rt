@@ -15,15 +15,15 @@ ghost use Rattle.ct_remove.specs.Asked.{IsAsked};
 ghost use Rattle.ct_remove.specs.Erased.{Erases, IsErased, IsGone, Removes};
 
 use crate::find::Entry;
-use ct_base::Inode;
+use ct_base::{ENTRY_WORDS, INODE_BYTES, Inode, MOST_INODES, NO_PARTITION, PAGE_BYTES};
 use ct_cut::give_up;
 use ct_dir::clear;
 use ct_inode::put;
 use ct_pm::{Pm, PmFault};
 use ct_record::Draft;
 
-/// The level of an object that has no partition.
-pub const NO_PART: u64 = 15;
+/// The most pairs of a removal: the words of a slot and of an inode, ten of the headers, and two for each of at most 64 pieces.
+pub const MOST_REMOVAL_PAIRS: u64 = 178;
 
 /// The inode of no object.
 const FREE: Inode = Inode {
@@ -39,8 +39,8 @@ fn erase<D: Pm>(draft: &mut Draft<D>, dir: Inode, offset: u64, number: u64) -> R
     requires placed { IsPlaced dir }
     requires used { IsSlot (dir_of (words_under draft.old) dir) offset }
     requires from { 1 ≤ number }
-    requires to { number ≤ 1048576 }
-    requires there { page_at (words_under draft.old) 4 (64 * number / 4096) ≢ 0 }
+    requires to { number ≤ MOST_INODES }
+    requires there { page_at (words_under draft.old) 4 (INODE_BYTES * number / PAGE_BYTES) ≢ 0 }
     requires begun { pairs_of draft.old ≡ [] }
     requires none { count_of draft.old ≡ 0 }
 
@@ -48,7 +48,7 @@ fn erase<D: Pm>(draft: &mut Draft<D>, dir: Inode, offset: u64, number: u64) -> R
     ensures maps { OnOk result ((slot : ℕ) → MapsAlike slot (words_under draft.new) (drafted draft.new)) }
     ensures named { OnOk result ((word : ℕ) → Named (pairs_of draft.new) word
         → IsErased (words_under draft.old) dir.base offset number word) }
-    ensures count { OnOk result (count_of draft.new ≡ 40) }
+    ensures count { OnOk result (count_of draft.new ≡ ENTRY_WORDS + 8) }
     ensures drafts { Drafts draft.old draft.new }
     ensures cause { HasCause (faults_under draft.old) (faults_under draft.new) result }
 {
@@ -68,7 +68,7 @@ pub fn draft_removal<D: Pm>(
     requires asked { IsAsked (words_under draft.old) entry.dir entry.offset entry.number }
     requires dir { inode_at (view (words_under draft.old)) entry.dir ≡ dir }
     requires level { (inode_at (view (words_under draft.old)) entry.number).level ≡ level }
-    requires can { level ≢ 15 → CanGiveUp (words_under draft.old) (inode_at (view (words_under draft.old)) entry.number) }
+    requires can { level ≢ NO_PARTITION → CanGiveUp (words_under draft.old) (inode_at (view (words_under draft.old)) entry.number) }
     requires begun { pairs_of draft.old ≡ [] }
     requires none { count_of draft.old ≡ 0 }
 
@@ -76,12 +76,12 @@ pub fn draft_removal<D: Pm>(
     ensures named { OnOk result ((word : ℕ) → Named (pairs_of draft.new) word
         → IsGone (words_under draft.old) dir.base entry.offset entry.number word) }
     ensures some { OnOk result (0 < count_of draft.new) }
-    ensures few { OnOk result (count_of draft.new ≤ 178) }
+    ensures few { OnOk result (count_of draft.new ≤ MOST_REMOVAL_PAIRS) }
     ensures drafts { Drafts draft.old draft.new }
     ensures cause { HasCause (faults_under draft.old) (faults_under draft.new) result }
 {
     erase(draft, dir, entry.offset, entry.number)?;
-    if level == NO_PART {
+    if level == NO_PARTITION {
         return Ok(());
     }
     give_up(draft, entry.number)

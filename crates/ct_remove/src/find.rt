@@ -13,16 +13,13 @@ ghost use Rattle.ct_call.specs.Mounted.{IsAtRest};
 ghost use Rattle.ct_remove.specs.Found.{EntryAnswers, IsEntryAt, IsFit, IsLeaf};
 ghost use Rattle.ct_remove.specs.Leaves.{leave_op};
 
-use ct_base::Inode;
+use ct_base::{DIRECTORY_KIND, Inode};
 use ct_dir::{find, next_after};
 use ct_enter::Kind;
 use ct_inode::get;
 use ct_path::{parent_of, refusal_of};
 use ct_pm::Pm;
 use ct_tree::Refusal;
-
-/// The kind of a directory.
-const DIRECTORY: u64 = 2;
 
 /// An entry: the directory in which it is, the offset of its slot there, and the inode to which it leads.
 #[derive(Clone, Copy, Debug, PartialEq, Eq)]
@@ -55,18 +52,18 @@ pub fn find_entry<D: Pm>(dev: &D, path: &[u8]) -> Result<Entry, Refusal>
 
 /// Whether an object may go by a call for a kind.
 pub fn check_kind<D: Pm>(dev: &D, inode: Inode, kind: Kind) -> Result<(), Refusal>
-    requires { inode.kind ≡ 2 → IsReadable (D.words dev.now) inode }
+    requires { inode.kind ≡ DIRECTORY_KIND → IsReadable (D.words dev.now) inode }
     ensures { IsFit (dir_of (D.words dev.now) inode) kind result }
 {
     match kind {
         Kind::File => {
-            if inode.kind == DIRECTORY {
+            if inode.kind == DIRECTORY_KIND {
                 return Err(Refusal::IsDir);
             }
             Ok(())
         }
         Kind::Directory => {
-            if inode.kind != DIRECTORY {
+            if inode.kind != DIRECTORY_KIND {
                 return Err(Refusal::NotDir);
             }
             match next_after(dev, inode, None) {

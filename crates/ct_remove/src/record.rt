@@ -13,8 +13,9 @@ ghost use Rattle.ct_remove.specs.Asked.{IsAsked};
 ghost use Rattle.ct_remove.specs.Erased.{Removes};
 ghost use Rattle.ct_remove.specs.Removed.{RemovedOrNot};
 
-use crate::draft::draft_removal;
+use crate::draft::{MOST_REMOVAL_PAIRS, draft_removal};
 use crate::find::Entry;
+use ct_base::NO_PARTITION;
 use ct_inode::get;
 use ct_pm::Pm;
 use ct_record::{Broken, Draft, Idle, conclude};
@@ -23,7 +24,7 @@ use ct_record::{Broken, Draft, Idle, conclude};
 pub(crate) fn remove_now<D: Pm>(dev: D, entry: Entry, level: u64) -> Result<D, Broken<D>>
     requires asked { IsAsked (D.words dev) entry.dir entry.offset entry.number }
     requires level { (inode_at (view (D.words dev)) entry.number).level ≡ level }
-    requires can { level ≢ 15 → CanGiveUp (D.words dev) (inode_at (view (D.words dev)) entry.number) }
+    requires can { level ≢ NO_PARTITION → CanGiveUp (D.words dev) (inode_at (view (D.words dev)) entry.number) }
     requires settled { NothingPending (D.told dev) }
 
     ensures removes { OnOk result (Removes (D.words dev) (D.words (device_behind result)) entry.dir entry.offset entry.number) }
@@ -31,7 +32,7 @@ pub(crate) fn remove_now<D: Pm>(dev: D, entry: Entry, level: u64) -> Result<D, B
     ensures settled { OnOk result (NothingPending (D.told (device_behind result))) }
 
     // A crash at any moment lands on the objects with this one, or on those without it.
-    ensures phase { Phase (RemovedOrNot (files (D.words dev)) entry.dir entry.offset entry.number) 178 (D.told dev) (D.told (device_behind result)) (D.words (device_behind result)) }
+    ensures phase { Phase (RemovedOrNot (files (D.words dev)) entry.dir entry.offset entry.number) MOST_REMOVAL_PAIRS (D.told dev) (D.told (device_behind result)) (D.words (device_behind result)) }
     ensures cause { HasCause (D.faults dev) (D.faults (device_behind result)) result }
 {
     let dir = get(&dev, entry.dir);

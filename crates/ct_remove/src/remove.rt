@@ -14,18 +14,15 @@ ghost use Rattle.ct_tree.specs.Lands.{files};
 ghost use Rattle.ct_remove.specs.Found.{IsLeaf};
 ghost use Rattle.ct_remove.specs.Removed.{RemovedOrNot, removed};
 
-use crate::draft::NO_PART;
+use crate::draft::MOST_REMOVAL_PAIRS;
 use crate::find::Entry;
 use crate::record::remove_now;
-use ct_base::Inode;
+use ct_base::{Inode, NO_PARTITION, STAGING_SLOT};
 use ct_cut::prepare_whole;
 use ct_frames::Frames;
 use ct_pm::Pm;
 use ct_record::Broken;
 use ct_walk::unstage;
-
-/// The staging slot of the calls.
-const STAGING: u64 = 2;
 
 // Removes an entry with an object that has a partition: the tables are made between whose entries it goes, and the staging
 // slot is emptied behind the record.
@@ -40,7 +37,7 @@ fn remove_whole<D: Pm>(
     requires settled { NothingPending (D.told dev) }
     requires leaf { IsLeaf (files (D.words dev)) entry.dir entry.offset entry.number }
     requires level { (inode_at (view (D.words dev)) entry.number).level ≡ level }
-    requires has { level ≢ 15 }
+    requires has { level ≢ NO_PARTITION }
     requires space { missing (D.words dev) (give_up_wants (inode_at (view (D.words dev)) entry.number)) ≤ length frames.old.free }
 
     ensures objects { OnOk result (files (D.words (device_behind result)) ≡ removed (files (D.words dev)) entry.dir entry.offset entry.number) }
@@ -48,7 +45,7 @@ fn remove_whole<D: Pm>(
     ensures rest { OnOk result (IsAtRest (D.words (device_behind result))) }
     ensures agrees { OnOk result (Agrees (D.words (device_behind result)) frames.new) }
     ensures settled { OnOk result (NothingPending (D.told (device_behind result))) }
-    ensures phase { Phase (RemovedOrNot (files (D.words dev)) entry.dir entry.offset entry.number) 178 (D.told dev) (D.told (device_behind result)) (D.words (device_behind result)) }
+    ensures phase { Phase (RemovedOrNot (files (D.words dev)) entry.dir entry.offset entry.number) MOST_REMOVAL_PAIRS (D.told dev) (D.told (device_behind result)) (D.words (device_behind result)) }
     ensures taken { OnOk result (length frames.old.free ≤ length frames.new.free + missing (D.words dev) (give_up_wants (inode_at (view (D.words dev)) entry.number))) }
     ensures cause { HasCause (D.faults dev) (D.faults (device_behind result)) result }
 {
@@ -61,7 +58,7 @@ fn remove_whole<D: Pm>(
         Ok(dev) => dev,
         Err(broken) => return Err(broken),
     };
-    match unstage(&mut dev, frames, STAGING) {
+    match unstage(&mut dev, frames, STAGING_SLOT) {
         Ok(()) => Ok(dev),
         Err(_) => Err(Broken { dev }),
     }
@@ -93,14 +90,14 @@ pub(crate) fn remove<D: Pm>(
     ensures settled { OnOk result (NothingPending (D.told (device_behind result))) }
 
     // A crash at any moment lands on the objects with this one, or on those without it.
-    ensures phase { Phase (RemovedOrNot (files (D.words dev)) entry.dir entry.offset entry.number) 178 (D.told dev) (D.told (device_behind result)) (D.words (device_behind result)) }
+    ensures phase { Phase (RemovedOrNot (files (D.words dev)) entry.dir entry.offset entry.number) MOST_REMOVAL_PAIRS (D.told dev) (D.told (device_behind result)) (D.words (device_behind result)) }
 
     // No more pages are taken than were missing.
     ensures taken { OnOk result (length frames.old.free ≤ length frames.new.free + missing (D.words dev) (give_up_wants inode)) }
     ensures cause { HasCause (D.faults dev) (D.faults (device_behind result)) result }
 {
-    if inode.level == NO_PART {
-        return remove_now(dev, entry, NO_PART);
+    if inode.level == NO_PARTITION {
+        return remove_now(dev, entry, NO_PARTITION);
     }
     remove_whole(dev, frames, entry, inode.level)
 }

@@ -5,6 +5,7 @@ use Rattle.ct_base.specs.declared.inode.Inode.{Inode}
 use Rattle.ct_base.specs.Inode.{inode}
 use Rattle.ct_base.specs.Path.{names_of}
 use Rattle.ct_base.specs.View.{view}
+use Rattle.ct_base.specs.declared.layout.TheConstants.{DIRECTORY_KIND}
 use Rattle.ct_tree.specs.Checks.{at}
 use Rattle.ct_tree.specs.Lands.{files}
 use Rattle.ct_tree.specs.Tree.{Tree}
@@ -28,8 +29,8 @@ pub record AreBelow (path to : List ℕ) (xs ys : List (List ℕ)) : Type 0 wher
 
 -- the kind of an object, a directory or none
 abbrev pub IsKindOf : Inode → Kind → Type 0
-IsKindOf f file = f.kind ≢ 2
-IsKindOf f directory = f.kind ≡ 2
+IsKindOf f file = f.kind ≢ DIRECTORY_KIND
+IsKindOf f directory = f.kind ≡ DIRECTORY_KIND
 
 -- an entry that the path leads to, or one that it may get
 abbrev pub IsTarget : List ℕ → List ℕ → Target → Type 0

@@ -13,6 +13,7 @@ use Rattle.ct_pm.specs.Device.{IsIn}
 use Rattle.ct_state.specs.Edits.{attach, detach}
 use Rattle.ct_tree.specs.Lands.{files}
 use Rattle.ct_base.specs.Settled.{IsShut}
+use Rattle.ct_base.specs.declared.layout.TheConstants.{DIRECTORY_KIND, ENTRY_BYTES, ENTRY_WORDS, MOST_INODES}
 use Rattle.ct_tree.specs.Tree.{Tree}
 use Rattle.ct_state.specs.Forest.{OneTree}
 use Rattle.ct_call.specs.Landing.{LandsAs}
@@ -30,11 +31,11 @@ pub record CanMove (w : List ℕ) (d o k s i : ℕ) (name : List ℕ) : Type 0 w
   pub slot : IsSlot (files w d) o
   pub child : slot_inode (files w d) o ≡ i
   pub owns : Owns (view w) (inode_count w) k
-  pub kind : (inode (view w) k).kind ≡ 2
-  pub aligned : s % 256 ≡ 0
+  pub kind : (inode (view w) k).kind ≡ DIRECTORY_KIND
+  pub aligned : s % ENTRY_BYTES ≡ 0
   pub low : s ≤ (inode (view w) k).size
-  pub fits : s + 256 ≤ part_bytes (inode (view w) k).level
-  pub few : i ≤ 1048576
+  pub fits : s + ENTRY_BYTES ≤ part_bytes (inode (view w) k).level
+  pub few : i ≤ MOST_INODES
   pub some : 1 ≤ i
   pub lawful : is_name name ≡ true
 
@@ -48,11 +49,11 @@ pub record Relinks (old new : List ℕ) (from to i : ℕ) (name : List ℕ) : Ty
 pub record MovesEntry (old new : List ℕ) (d o k s i : ℕ) (name : List ℕ) : Type 0 where
   pub linked : List ℕ
   pub links : Relinks old linked ((inode (view old) d).base + o) ((inode (view old) k).base + s) i name
-  pub size : RaisesSize linked new k (inode (view old) k).size (s + 256)
+  pub size : RaisesSize linked new k (inode (view old) k).size (s + ENTRY_BYTES)
 
 -- the device word is one of the two slots
 abbrev pub IsLinkWord : List ℕ → ℕ → ℕ → ℕ → Type 0
-IsLinkWord img from to word = IsIn (place_at img from) 32 word ⊎ IsIn (place_at img to) 32 word
+IsLinkWord img from to word = IsIn (place_at img from) ENTRY_WORDS word ⊎ IsIn (place_at img to) ENTRY_WORDS word
 
 -- or of the size
 abbrev pub IsMoveWord : List ℕ → ℕ → ℕ → ℕ → ℕ → Type 0
@@ -92,5 +93,5 @@ TurnedOrNot fs gs image = LandsAs fs image ⊎ LandsAs gs image
 pub record CanLeave (w : List ℕ) (d o i : ℕ) : Type 0 where
   pub slot : IsSlot (files w d) o
   pub child : slot_inode (files w d) o ≡ i
-  pub few : i ≤ 1048576
+  pub few : i ≤ MOST_INODES
   pub some : 1 ≤ i

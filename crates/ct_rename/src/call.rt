@@ -22,6 +22,7 @@ ghost use Rattle.ct_rename.specs.Moves.{HasTree, TurnedOrNot};
 ghost use Rattle.ct_rename.specs.Renamed.{CanRename, IsIdle, IsPlanFor, renamed, room_dir};
 
 use crate::carry::{move_at, move_there, replace};
+use crate::draft::MOST_RENAME_PAIRS;
 use crate::find::{Form, find_form};
 use ct_call::{CallPlan, Failed, FsError, Growth, Mounted, State, check_space};
 use ct_dir::name_at;
@@ -112,7 +113,7 @@ fn carry_out<D: Pm>(
     ensures rest { OnOk result (IsAtRest (D.words (device_behind result))) }
     ensures agrees { OnOk result (Agrees (D.words (device_behind result)) frames.new) }
     ensures settled { OnOk result (NothingPending (D.told (device_behind result))) }
-    ensures phase { Phase (TurnedOrNot (files (D.words dev)) (renamed (files (D.words dev)) form.now)) 242 (D.told dev) (D.told (device_behind result)) (D.words (device_behind result)) }
+    ensures phase { Phase (TurnedOrNot (files (D.words dev)) (renamed (files (D.words dev)) form.now)) MOST_RENAME_PAIRS (D.told dev) (D.told (device_behind result)) (D.words (device_behind result)) }
     ensures cause { HasCause (D.faults dev) (D.faults (device_behind result)) result }
 {
     match form {

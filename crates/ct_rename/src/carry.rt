@@ -22,7 +22,9 @@ ghost use Rattle.ct_remove.specs.Found.{IsLeaf};
 ghost use Rattle.ct_tree.specs.Lands.{files};
 ghost use Rattle.ct_rename.specs.Moves.{CanLeave, CanMove, HasTree, TurnedOrNot, moved, replaced};
 
+use crate::draft::{MOST_MOVE_PAIRS, MOST_RENAME_PAIRS};
 use crate::record::{move_now, replace_now};
+use ct_base::{NO_PARTITION, PAGE_BYTES, STAGING_SLOT};
 use ct_call::{CallPlan, room};
 use ct_cut::prepare_whole;
 use ct_enter::Spot;
@@ -30,11 +32,8 @@ use ct_frames::Frames;
 use ct_inode::get;
 use ct_pm::Pm;
 use ct_record::Broken;
-use ct_remove::{Entry, NO_PART};
+use ct_remove::Entry;
 use ct_walk::unstage;
-
-/// The staging slot of the calls.
-const STAGING: u64 = 2;
 
 /// Moves an entry to a slot that is there and empty, or gives it another name in its own.
 pub(crate) fn move_at<D: Pm>(
@@ -47,7 +46,7 @@ pub(crate) fn move_at<D: Pm>(
     requires rest { IsAtRest (D.words dev) }
     requires settled { NothingPending (D.told dev) }
     requires can { CanMove (D.words dev) entry.dir entry.offset dir offset entry.number name.now }
-    requires there { page_at (D.words dev) 4 (((inode_at (view (D.words dev)) dir).base + offset) / 4096) ≢ 0 }
+    requires there { page_at (D.words dev) 4 (((inode_at (view (D.words dev)) dir).base + offset) / PAGE_BYTES) ≢ 0 }
     requires tree { HasTree (moved (files (D.words dev)) entry.dir entry.offset dir offset entry.number name.now) }
 
     ensures objects { OnOk result (files (D.words (device_behind result)) ≡ moved (files (D.words dev)) entry.dir entry.offset dir offset entry.number name.now) }
@@ -55,7 +54,7 @@ pub(crate) fn move_at<D: Pm>(
     ensures keeps { OnOk result (KeepsTables (D.words dev) (D.words (device_behind result))) }
     ensures part { OnOk result (KeepsPart (D.words dev) (D.words (device_behind result)) dir) }
     ensures settled { OnOk result (NothingPending (D.told (device_behind result))) }
-    ensures phase { Phase (TurnedOrNot (files (D.words dev)) (moved (files (D.words dev)) entry.dir entry.offset dir offset entry.number name.now)) 65
+    ensures phase { Phase (TurnedOrNot (files (D.words dev)) (moved (files (D.words dev)) entry.dir entry.offset dir offset entry.number name.now)) MOST_MOVE_PAIRS
         (D.told dev) (D.told (device_behind result)) (D.words (device_behind result)) }
     ensures cause { HasCause (D.faults dev) (D.faults (device_behind result)) result }
 {
@@ -93,7 +92,7 @@ pub(crate) fn move_there<D: Pm>(
     ensures rest { OnOk result (IsAtRest (D.words (device_behind result))) }
     ensures agrees { OnOk result (Agrees (D.words (device_behind result)) frames.new) }
     ensures settled { OnOk result (NothingPending (D.told (device_behind result))) }
-    ensures phase { Phase (TurnedOrNot (files (D.words dev)) (moved (files (D.words dev)) entry.dir entry.offset spot.now.dir spot.now.offset entry.number spot.now.name.now)) 242
+    ensures phase { Phase (TurnedOrNot (files (D.words dev)) (moved (files (D.words dev)) entry.dir entry.offset spot.now.dir spot.now.offset entry.number spot.now.name.now)) MOST_RENAME_PAIRS
         (D.told dev) (D.told (device_behind result)) (D.words (device_behind result)) }
     ensures cause { HasCause (D.faults dev) (D.faults (device_behind result)) result }
 {
@@ -124,7 +123,7 @@ fn replace_whole<D: Pm>(
     requires leaf { IsLeaf (files (D.words dev)) gone.dir gone.offset gone.number }
     requires away { entry.dir ≡ gone.dir → entry.offset ≢ gone.offset }
     requires level { (inode_at (view (D.words dev)) gone.number).level ≡ level }
-    requires has { level ≢ 15 }
+    requires has { level ≢ NO_PARTITION }
     requires space { missing (D.words dev) (give_up_wants (inode_at (view (D.words dev)) gone.number)) ≤ length frames.old.free }
     requires tree { HasTree (replaced (files (D.words dev)) entry.dir entry.offset gone.dir gone.offset entry.number gone.number name.now) }
 
@@ -133,7 +132,7 @@ fn replace_whole<D: Pm>(
     ensures rest { OnOk result (IsAtRest (D.words (device_behind result))) }
     ensures agrees { OnOk result (Agrees (D.words (device_behind result)) frames.new) }
     ensures settled { OnOk result (NothingPending (D.told (device_behind result))) }
-    ensures phase { Phase (TurnedOrNot (files (D.words dev)) (replaced (files (D.words dev)) entry.dir entry.offset gone.dir gone.offset entry.number gone.number name.now)) 242
+    ensures phase { Phase (TurnedOrNot (files (D.words dev)) (replaced (files (D.words dev)) entry.dir entry.offset gone.dir gone.offset entry.number gone.number name.now)) MOST_RENAME_PAIRS
         (D.told dev) (D.told (device_behind result)) (D.words (device_behind result)) }
     ensures taken { OnOk result (length frames.old.free ≤ length frames.new.free + missing (D.words dev) (give_up_wants (inode_at (view (D.words dev)) gone.number))) }
     ensures cause { HasCause (D.faults dev) (D.faults (device_behind result)) result }
@@ -143,11 +142,8 @@ fn replace_whole<D: Pm>(
         Ok(()) => {}
         Err(_) => return Err(Broken { dev }),
     }
-    let mut dev = match replace_now(dev, entry, gone, level, name) {
-        Ok(dev) => dev,
-        Err(broken) => return Err(broken),
-    };
-    match unstage(&mut dev, frames, STAGING) {
+    let mut dev = replace_now(dev, entry, gone, level, name)?;
+    match unstage(&mut dev, frames, STAGING_SLOT) {
         Ok(()) => Ok(dev),
         Err(_) => Err(Broken { dev }),
     }
@@ -177,13 +173,13 @@ pub(crate) fn replace<D: Pm>(
     ensures rest { OnOk result (IsAtRest (D.words (device_behind result))) }
     ensures agrees { OnOk result (Agrees (D.words (device_behind result)) frames.new) }
     ensures settled { OnOk result (NothingPending (D.told (device_behind result))) }
-    ensures phase { Phase (TurnedOrNot (files (D.words dev)) (replaced (files (D.words dev)) entry.dir entry.offset gone.dir gone.offset entry.number gone.number name.now)) 242
+    ensures phase { Phase (TurnedOrNot (files (D.words dev)) (replaced (files (D.words dev)) entry.dir entry.offset gone.dir gone.offset entry.number gone.number name.now)) MOST_RENAME_PAIRS
         (D.told dev) (D.told (device_behind result)) (D.words (device_behind result)) }
     ensures taken { OnOk result (length frames.old.free ≤ length frames.new.free + missing (D.words dev) (give_up_wants (inode_at (view (D.words dev)) gone.number))) }
     ensures cause { HasCause (D.faults dev) (D.faults (device_behind result)) result }
 {
-    if level == NO_PART {
-        return replace_now(dev, entry, gone, NO_PART, name);
+    if level == NO_PARTITION {
+        return replace_now(dev, entry, gone, NO_PARTITION, name);
     }
     replace_whole(dev, frames, entry, gone, level, name)
 }

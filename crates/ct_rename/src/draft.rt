@@ -14,15 +14,20 @@ ghost use Rattle.ct_remove.specs.Asked.{IsAsked};
 ghost use Rattle.ct_record.specs.Seen.{Drafts, count_of, drafted, faults_under, pairs_of, words_under};
 ghost use Rattle.ct_rename.specs.Moves.{CanMove, IsLinkWord, IsMoveWord, IsReplaceWord, MovesEntry, Relinks, Replaces};
 
-use ct_base::Inode;
+use ct_base::{
+    ENTRY_BYTES, ENTRY_WORDS, Inode, MOST_INODES, MOST_LONG_PAIRS, NO_PARTITION, PAGE_BYTES,
+};
 use ct_dir::{clear, set};
 use ct_enter::{Spot, raise_size};
 use ct_pm::{Pm, PmFault};
 use ct_record::Draft;
 use ct_remove::{Entry, draft_removal};
 
-/// How many bytes a slot has.
-const SLOT_BYTES: u64 = 256;
+/// The most pairs of a move: the words of two slots, and the size of the directory.
+pub const MOST_MOVE_PAIRS: u64 = 65;
+
+/// The most pairs where an object is replaced: the words of two slots, and what the removal of an object takes.
+pub const MOST_RENAME_PAIRS: u64 = 242;
 
 // Drafts that a slot becomes empty, and that another, or the same, then has an entry.
 fn relink<D: Pm>(
@@ -39,21 +44,21 @@ fn relink<D: Pm>(
     requires placed { IsPlaced from }
     requires used { IsSlot (dir_of (words_under draft.old) from) offset }
     requires to_room { HasRoom to }
-    requires aligned { at % 256 ≡ 0 }
-    requires inside { at + 256 ≤ part_bytes to.level }
-    requires number { number ≤ 1048576 }
+    requires aligned { at % ENTRY_BYTES ≡ 0 }
+    requires inside { at + ENTRY_BYTES ≤ part_bytes to.level }
+    requires number { number ≤ MOST_INODES }
     requires name { is_name name.now ≡ true }
-    requires there { page_at (words_under draft.old) 4 ((to.base + at) / 4096) ≢ 0 }
-    requires few { count_of draft.old + 64 ≤ 8184 }
+    requires there { page_at (words_under draft.old) 4 ((to.base + at) / PAGE_BYTES) ≢ 0 }
+    requires few { count_of draft.old + 2 * ENTRY_WORDS ≤ MOST_LONG_PAIRS }
     // The pages of both are where they were before the pairs so far.
-    requires from_page { page_at (drafted draft.old) 4 ((from.base + offset) / 4096) ≡ page_at (words_under draft.old) 4 ((from.base + offset) / 4096) }
-    requires to_page { page_at (drafted draft.old) 4 ((to.base + at) / 4096) ≡ page_at (words_under draft.old) 4 ((to.base + at) / 4096) }
+    requires from_page { page_at (drafted draft.old) 4 ((from.base + offset) / PAGE_BYTES) ≡ page_at (words_under draft.old) 4 ((from.base + offset) / PAGE_BYTES) }
+    requires to_page { page_at (drafted draft.old) 4 ((to.base + at) / PAGE_BYTES) ≡ page_at (words_under draft.old) 4 ((to.base + at) / PAGE_BYTES) }
 
     ensures links { OnOk result (Relinks (drafted draft.old) (drafted draft.new) (from.base + offset) (to.base + at) number name.now) }
     ensures named { OnOk result ((word : ℕ) → Named (pairs_of draft.new) word
         → IsLinkWord (words_under draft.old) (from.base + offset) (to.base + at) word ⊎ Named (pairs_of draft.old) word) }
     ensures bytes { OnOk result ((k : ℕ) → slice_index name.now k < 256) }
-    ensures count { OnOk result (count_of draft.new ≡ count_of draft.old + 64) }
+    ensures count { OnOk result (count_of draft.new ≡ count_of draft.old + 2 * ENTRY_WORDS) }
     ensures drafts { Drafts draft.old draft.new }
     ensures cause { HasCause (faults_under draft.old) (faults_under draft.new) result }
 {
@@ -72,7 +77,7 @@ pub(crate) fn draft_move<D: Pm>(
     requires can { CanMove (words_under draft.old) entry.dir entry.offset spot.now.dir spot.now.offset entry.number spot.now.name.now }
     requires from { inode_at (view (words_under draft.old)) entry.dir ≡ from }
     requires to { inode_at (view (words_under draft.old)) spot.now.dir ≡ spot.now.inode }
-    requires there { page_at (words_under draft.old) 4 ((spot.now.inode.base + spot.now.offset) / 4096) ≢ 0 }
+    requires there { page_at (words_under draft.old) 4 ((spot.now.inode.base + spot.now.offset) / PAGE_BYTES) ≢ 0 }
     requires begun { pairs_of draft.old ≡ [] }
     requires none { count_of draft.old ≡ 0 }
 
@@ -81,7 +86,7 @@ pub(crate) fn draft_move<D: Pm>(
         → IsMoveWord (words_under draft.old) (from.base + entry.offset) (spot.now.inode.base + spot.now.offset) spot.now.dir word) }
     ensures bytes { OnOk result ((k : ℕ) → slice_index spot.now.name.now k < 256) }
     ensures some { OnOk result (0 < count_of draft.new) }
-    ensures few { OnOk result (count_of draft.new ≤ 65) }
+    ensures few { OnOk result (count_of draft.new ≤ MOST_MOVE_PAIRS) }
     ensures drafts { Drafts draft.old draft.new }
     ensures cause { HasCause (faults_under draft.old) (faults_under draft.new) result }
 {
@@ -94,7 +99,7 @@ pub(crate) fn draft_move<D: Pm>(
         entry.number,
         spot.name,
     )?;
-    raise_size(draft, spot.dir, spot.inode.size, spot.offset + SLOT_BYTES)
+    raise_size(draft, spot.dir, spot.inode.size, spot.offset + ENTRY_BYTES)
 }
 
 /// Drafts that an entry goes with its object, and that another takes its slot.
@@ -112,7 +117,7 @@ pub(crate) fn draft_replace<D: Pm>(
     requires from { inode_at (view (words_under draft.old)) entry.dir ≡ from }
     requires to { inode_at (view (words_under draft.old)) gone.dir ≡ to }
     requires level { (inode_at (view (words_under draft.old)) gone.number).level ≡ level }
-    requires give { level ≢ 15 → CanGiveUp (words_under draft.old) (inode_at (view (words_under draft.old)) gone.number) }
+    requires give { level ≢ NO_PARTITION → CanGiveUp (words_under draft.old) (inode_at (view (words_under draft.old)) gone.number) }
     requires begun { pairs_of draft.old ≡ [] }
     requires none { count_of draft.old ≡ 0 }
 
@@ -121,7 +126,7 @@ pub(crate) fn draft_replace<D: Pm>(
         → IsReplaceWord (words_under draft.old) (from.base + entry.offset) to.base gone.offset gone.number word) }
     ensures bytes { OnOk result ((k : ℕ) → slice_index name.now k < 256) }
     ensures some { OnOk result (0 < count_of draft.new) }
-    ensures few { OnOk result (count_of draft.new ≤ 242) }
+    ensures few { OnOk result (count_of draft.new ≤ MOST_RENAME_PAIRS) }
     ensures drafts { Drafts draft.old draft.new }
     ensures cause { HasCause (faults_under draft.old) (faults_under draft.new) result }
 {

@@ -13,16 +13,13 @@ ghost use Rattle.ct_call.specs.Mounted.{IsAtRest};
 ghost use Rattle.ct_rename.specs.Forms.{AreBelow, IsForm, IsKindOf, IsTarget, Meets};
 
 use crate::below::lies_below;
-use ct_base::Inode;
+use ct_base::{DIRECTORY_KIND, Inode, MOST_INODES};
 use ct_enter::{Kind, Spot, find_spot};
 use ct_inode::get;
 use ct_path::{Names, parse};
 use ct_pm::Pm;
 use ct_remove::{Entry, check_kind, find_entry};
 use ct_tree::Refusal;
-
-/// The kind of a directory.
-const DIRECTORY: u64 = 2;
 
 /// What a new name meets.
 #[derive(Drop)]
@@ -51,10 +48,10 @@ pub enum Form<'p> {
 fn kind_at<D: Pm>(dev: &D, number: u64) -> Kind
     requires tables { AreTables (D.words dev.now) }
     requires from { 1 ≤ number }
-    requires to { number ≤ 1048576 }
+    requires to { number ≤ MOST_INODES }
     ensures { IsKindOf (inode (view (D.words dev.now)) number) result }
 {
-    if get(dev, number).kind == DIRECTORY {
+    if get(dev, number).kind == DIRECTORY_KIND {
         return Kind::Directory;
     }
     Kind::File

@@ -13,7 +13,8 @@ ghost use Rattle.ct_remove.specs.Asked.{IsAsked};
 ghost use Rattle.ct_tree.specs.Lands.{files};
 ghost use Rattle.ct_rename.specs.Moves.{CanMove, HasTree, Moved, Replaces, TurnedOrNot, moved, replaced};
 
-use crate::draft::{draft_move, draft_replace};
+use crate::draft::{MOST_MOVE_PAIRS, MOST_RENAME_PAIRS, draft_move, draft_replace};
+use ct_base::{NO_PARTITION, PAGE_BYTES};
 use ct_enter::Spot;
 use ct_inode::get;
 use ct_pm::Pm;
@@ -25,7 +26,7 @@ pub(crate) fn move_now<D: Pm>(dev: D, entry: Entry, spot: &Spot<'_>) -> Result<D
     requires settled { NothingPending (D.told dev) }
     requires can { CanMove (D.words dev) entry.dir entry.offset spot.now.dir spot.now.offset entry.number spot.now.name.now }
     requires to { inode_at (view (D.words dev)) spot.now.dir ≡ spot.now.inode }
-    requires there { page_at (D.words dev) 4 ((spot.now.inode.base + spot.now.offset) / 4096) ≢ 0 }
+    requires there { page_at (D.words dev) 4 ((spot.now.inode.base + spot.now.offset) / PAGE_BYTES) ≢ 0 }
     requires tree { HasTree (moved (files (D.words dev)) entry.dir entry.offset spot.now.dir spot.now.offset entry.number spot.now.name.now) }
 
     ensures moves { OnOk result (Moved (D.words dev) (D.words (device_behind result)) entry.dir entry.offset spot.now.dir spot.now.offset entry.number spot.now.name.now) }
@@ -33,7 +34,7 @@ pub(crate) fn move_now<D: Pm>(dev: D, entry: Entry, spot: &Spot<'_>) -> Result<D
     ensures settled { OnOk result (NothingPending (D.told (device_behind result))) }
 
     // A crash at any moment lands on the objects with the entry in its old place, or in its new one.
-    ensures phase { Phase (TurnedOrNot (files (D.words dev)) (moved (files (D.words dev)) entry.dir entry.offset spot.now.dir spot.now.offset entry.number spot.now.name.now)) 65
+    ensures phase { Phase (TurnedOrNot (files (D.words dev)) (moved (files (D.words dev)) entry.dir entry.offset spot.now.dir spot.now.offset entry.number spot.now.name.now)) MOST_MOVE_PAIRS
         (D.told dev) (D.told (device_behind result)) (D.words (device_behind result)) }
     ensures cause { HasCause (D.faults dev) (D.faults (device_behind result)) result }
 {
@@ -56,7 +57,7 @@ pub(crate) fn replace_now<D: Pm>(
     requires asked { IsAsked (D.words dev) gone.dir gone.offset gone.number }
     requires away { entry.dir ≡ gone.dir → entry.offset ≢ gone.offset }
     requires level { (inode_at (view (D.words dev)) gone.number).level ≡ level }
-    requires give { level ≢ 15 → CanGiveUp (D.words dev) (inode_at (view (D.words dev)) gone.number) }
+    requires give { level ≢ NO_PARTITION → CanGiveUp (D.words dev) (inode_at (view (D.words dev)) gone.number) }
     requires tree { HasTree (replaced (files (D.words dev)) entry.dir entry.offset gone.dir gone.offset entry.number gone.number name.now) }
 
     ensures replaces { OnOk result (Replaces (D.words dev) (D.words (device_behind result)) entry.dir entry.offset gone.dir gone.offset entry.number gone.number name.now) }
@@ -65,7 +66,7 @@ pub(crate) fn replace_now<D: Pm>(
     ensures settled { OnOk result (NothingPending (D.told (device_behind result))) }
 
     // A crash at any moment lands on the objects as they were, or on those with the entry in the place of the other.
-    ensures phase { Phase (TurnedOrNot (files (D.words dev)) (replaced (files (D.words dev)) entry.dir entry.offset gone.dir gone.offset entry.number gone.number name.now)) 242
+    ensures phase { Phase (TurnedOrNot (files (D.words dev)) (replaced (files (D.words dev)) entry.dir entry.offset gone.dir gone.offset entry.number gone.number name.now)) MOST_RENAME_PAIRS
         (D.told dev) (D.told (device_behind result)) (D.words (device_behind result)) }
     ensures cause { HasCause (D.faults dev) (D.faults (device_behind result)) result }
 {

@@ -32,11 +32,11 @@ erase-requires-clause-to g c = omega (arith, (object_live c.requires.asked).numb
 pub erase-requires-clause-there : goal.erase-requires-clause-there
 erase-requires-clause-there g c = object_there c.requires.asked
 
-pub returns-then-level-eq-NO_PART-clause-removes : goal.returns-then-level-eq-NO_PART-clause-removes
-returns-then-level-eq-NO_PART-clause-removes g c = removes_bare c.requires.asked (subst (λ i. Erases (words_under c.args.draft.now) (drafted c.erase.new.draft) i.base c.args.entry.offset c.args.entry.number) (sym c.requires.dir) c.in_ok-erase.ensures.erases) (omega (arith, c.requires.level))
+pub returns-then-level-eq-NO_PARTITION-clause-removes : goal.returns-then-level-eq-NO_PARTITION-clause-removes
+returns-then-level-eq-NO_PARTITION-clause-removes g c = removes_bare c.requires.asked (subst (λ i. Erases (words_under c.args.draft.now) (drafted c.erase.new.draft) i.base c.args.entry.offset c.args.entry.number) (sym c.requires.dir) c.in_ok-erase.ensures.erases) (omega (arith, c.requires.level))
 
-pub returns-then-level-eq-NO_PART-clause-named : goal.returns-then-level-eq-NO_PART-clause-named
-returns-then-level-eq-NO_PART-clause-named g c word named = inl (c.in_ok-erase.ensures.named word named)
+pub returns-then-level-eq-NO_PARTITION-clause-named : goal.returns-then-level-eq-NO_PARTITION-clause-named
+returns-then-level-eq-NO_PARTITION-clause-named g c word named = inl (c.in_ok-erase.ensures.named word named)
 
 pub give_up-requires-clause-tables : goal.give_up-requires-clause-tables
 give_up-requires-clause-tables g c = tables_on c.erase.ensures.drafts c.requires.asked.rest.tables

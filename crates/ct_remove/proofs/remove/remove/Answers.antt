@@ -6,19 +6,19 @@ use Rattle.ct_remove.specs.Erased.{Removes}
 use Rattle.ct_remove.proofs.Whole.{bare_files, bare_rest, removed_agrees}
 use Rattle.ct_remove.proofs.remove.remove.Goals as goal
 
-pub returns-then-inode-eq-NO_PART-clause-objects : goal.returns-then-inode-eq-NO_PART-clause-objects
-returns-then-inode-eq-NO_PART-clause-objects g c =
+pub returns-then-inode-eq-NO_PARTITION-clause-objects : goal.returns-then-inode-eq-NO_PARTITION-clause-objects
+returns-then-inode-eq-NO_PARTITION-clause-objects g c =
     let R : Type 0 = Removes (g.D.Pm.words c.args.dev) (g.D.Pm.words (device_behind c.remove_now.result)) c.args.entry.dir c.args.entry.offset c.args.entry.number in
     let S : Type 0 = IsShut (g.D.Pm.words (device_behind c.remove_now.result)) in
     ok_then (R × S) c.remove_now.result (λ has. bare_files c.requires.rest c.requires.leaf (ap (λ i. i.level) (sym c.requires.inode) ∙ omega arith) has.0 has.1) (ok_both R S c.remove_now.result c.remove_now.ensures.removes c.remove_now.ensures.shut)
 
-pub returns-then-inode-eq-NO_PART-clause-rest : goal.returns-then-inode-eq-NO_PART-clause-rest
-returns-then-inode-eq-NO_PART-clause-rest g c =
+pub returns-then-inode-eq-NO_PARTITION-clause-rest : goal.returns-then-inode-eq-NO_PARTITION-clause-rest
+returns-then-inode-eq-NO_PARTITION-clause-rest g c =
     let R : Type 0 = Removes (g.D.Pm.words c.args.dev) (g.D.Pm.words (device_behind c.remove_now.result)) c.args.entry.dir c.args.entry.offset c.args.entry.number in
     let S : Type 0 = IsShut (g.D.Pm.words (device_behind c.remove_now.result)) in
     ok_then (R × S) c.remove_now.result (λ has. bare_rest c.requires.rest c.requires.leaf (ap (λ i. i.level) (sym c.requires.inode) ∙ omega arith) has.0 has.1) (ok_both R S c.remove_now.result c.remove_now.ensures.removes c.remove_now.ensures.shut)
 
-pub returns-then-inode-eq-NO_PART-clause-agrees : goal.returns-then-inode-eq-NO_PART-clause-agrees
-returns-then-inode-eq-NO_PART-clause-agrees g c =
+pub returns-then-inode-eq-NO_PARTITION-clause-agrees : goal.returns-then-inode-eq-NO_PARTITION-clause-agrees
+returns-then-inode-eq-NO_PARTITION-clause-agrees g c =
     let R : Type 0 = Removes (g.D.Pm.words c.args.dev) (g.D.Pm.words (device_behind c.remove_now.result)) c.args.entry.dir c.args.entry.offset c.args.entry.number in
     ok_then R c.remove_now.result (λ r. removed_agrees r c.requires.agrees) c.remove_now.ensures.removes

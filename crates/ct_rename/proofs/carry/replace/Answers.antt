@@ -19,22 +19,22 @@ module _ (g : Over) (c : goal.After-replace_now g) where
   abbrev B : Type 0
   B = AreBytes c.args.name.now
 
-pub returns-then-level-eq-NO_PART-clause-objects : goal.returns-then-level-eq-NO_PART-clause-objects
-returns-then-level-eq-NO_PART-clause-objects g c =
+pub returns-then-level-eq-NO_PARTITION-clause-objects : goal.returns-then-level-eq-NO_PARTITION-clause-objects
+returns-then-level-eq-NO_PARTITION-clause-objects g c =
     ok_then (R g c × B g c) c.replace_now.result (λ has. replaced_are c.requires.can (rest_asked c.requires.rest c.requires.leaf) c.requires.away has.0 has.1)
     (ok_both (R g c) (B g c) c.replace_now.result c.replace_now.ensures.replaces c.replace_now.ensures.bytes)
 
-pub returns-then-level-eq-NO_PART-clause-counted : goal.returns-then-level-eq-NO_PART-clause-counted
-returns-then-level-eq-NO_PART-clause-counted g c =
+pub returns-then-level-eq-NO_PARTITION-clause-counted : goal.returns-then-level-eq-NO_PARTITION-clause-counted
+returns-then-level-eq-NO_PARTITION-clause-counted g c =
     ok_then ((R g c × B g c) × S g c) c.replace_now.result (λ has. last_counted c.requires.can (rest_asked c.requires.rest c.requires.leaf) c.requires.away c.requires.tree has.0.0 has.0.1 has.1)
     (ok_both (R g c × B g c) (S g c) c.replace_now.result (ok_both (R g c) (B g c) c.replace_now.result c.replace_now.ensures.replaces c.replace_now.ensures.bytes) c.replace_now.ensures.shut)
 
-pub returns-then-level-eq-NO_PART-clause-rest : goal.returns-then-level-eq-NO_PART-clause-rest
-returns-then-level-eq-NO_PART-clause-rest g c =
+pub returns-then-level-eq-NO_PARTITION-clause-rest : goal.returns-then-level-eq-NO_PARTITION-clause-rest
+returns-then-level-eq-NO_PARTITION-clause-rest g c =
     ok_then ((R g c × B g c) × S g c) c.replace_now.result (λ has. bare_rest c.requires.can (rest_asked c.requires.rest c.requires.leaf) c.requires.away c.requires.tree has.0.0 has.0.1 has.1 c.requires.rest (omega (arith, c.requires.level)))
     (ok_both (R g c × B g c) (S g c) c.replace_now.result (ok_both (R g c) (B g c) c.replace_now.result c.replace_now.ensures.replaces c.replace_now.ensures.bytes) c.replace_now.ensures.shut)
 
-pub returns-then-level-eq-NO_PART-clause-agrees : goal.returns-then-level-eq-NO_PART-clause-agrees
-returns-then-level-eq-NO_PART-clause-agrees g c =
+pub returns-then-level-eq-NO_PARTITION-clause-agrees : goal.returns-then-level-eq-NO_PARTITION-clause-agrees
+returns-then-level-eq-NO_PARTITION-clause-agrees g c =
     ok_then (R g c × B g c) c.replace_now.result (λ has. replaced_agrees c.requires.can (rest_asked c.requires.rest c.requires.leaf) c.requires.away has.0 has.1 c.requires.agrees)
     (ok_both (R g c) (B g c) c.replace_now.result c.replace_now.ensures.replaces c.replace_now.ensures.bytes)

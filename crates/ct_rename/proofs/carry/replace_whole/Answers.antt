@@ -1,4 +1,5 @@
 use Rattle.std.proofs.Common.{inl, inr, arith}
+use Rattle.std.proofs.lemmas.Result.{err_from_is_err_and}
 use Rattle.ct_remove.proofs.Asked.{owns_or}
 use Rattle.ct_remove.proofs.Whole.{readied_asked, readied_can, readied_level, rest_asked, rest_ready}
 use Rattle.ct_rename.proofs.Ending.{before_only, can_ready, record_then, tree_ready, whole_agrees, whole_counted, whole_files, whole_phase, whole_rest, whole_settled}
@@ -28,33 +29,33 @@ replace_now-requires-clause-give g c has = readied_can c.requires.rest c.require
 pub replace_now-requires-clause-tree : goal.replace_now-requires-clause-tree
 replace_now-requires-clause-tree g c = tree_ready c.requires.rest c.requires.leaf c.in-Ok.ensures.readied c.args.entry.dir c.args.entry.offset c.args.entry.number c.args.name.now c.requires.tree
 
-pub returns-in-Err-replace_now-clause-phase : goal.returns-in-Err-replace_now-clause-phase
-returns-in-Err-replace_now-clause-phase g c = record_then c.requires.rest c.requires.leaf c.in-Ok.ensures.readied c.args.entry.dir c.args.entry.offset c.args.entry.number c.args.name.now c.prepare_whole.ensures.phase c.in-Err-replace_now.ensures.phase
+pub returns-in_err-dev-clause-phase : goal.returns-in_err-dev-clause-phase
+returns-in_err-dev-clause-phase g c = let p = err_from_is_err_and c.from_residual.result c.from_residual.ensures.1 in rw (p.1, p.2) (record_then c.requires.rest c.requires.leaf c.in-Ok.ensures.readied c.args.entry.dir c.args.entry.offset c.args.entry.number c.args.name.now c.prepare_whole.ensures.phase c.in_err-dev.ensures.phase)
 
 pub unstage-requires-clause-tables : goal.unstage-requires-clause-tables
-unstage-requires-clause-tables g c = (whole_settled c.requires.rest c.requires.leaf c.in-Ok.ensures.readied c.requires.can c.requires.away c.requires.tree c.in-Ok-replace_now.ensures.replaces c.in-Ok-replace_now.ensures.bytes c.in-Ok-replace_now.ensures.shut).tables
+unstage-requires-clause-tables g c = (whole_settled c.requires.rest c.requires.leaf c.in-Ok.ensures.readied c.requires.can c.requires.away c.requires.tree c.in_ok-dev.ensures.replaces c.in_ok-dev.ensures.bytes c.in_ok-dev.ensures.shut).tables
 
 pub unstage-requires-clause-agrees : goal.unstage-requires-clause-agrees
-unstage-requires-clause-agrees g c = whole_agrees c.requires.rest c.requires.leaf c.in-Ok.ensures.readied c.requires.can c.requires.away c.requires.tree c.in-Ok-replace_now.ensures.replaces c.in-Ok-replace_now.ensures.bytes c.in-Ok-replace_now.ensures.shut c.in-Ok.ensures.agrees
+unstage-requires-clause-agrees g c = whole_agrees c.requires.rest c.requires.leaf c.in-Ok.ensures.readied c.requires.can c.requires.away c.requires.tree c.in_ok-dev.ensures.replaces c.in_ok-dev.ensures.bytes c.in_ok-dev.ensures.shut c.in-Ok.ensures.agrees
 
 pub returns-in-Ok-unstage-clause-objects : goal.returns-in-Ok-unstage-clause-objects
-returns-in-Ok-unstage-clause-objects g c = whole_files c.requires.rest c.requires.leaf c.in-Ok.ensures.readied c.requires.can c.requires.away c.requires.tree c.in-Ok-replace_now.ensures.replaces c.in-Ok-replace_now.ensures.bytes c.in-Ok-replace_now.ensures.shut c.in-Ok-unstage.ensures.words
+returns-in-Ok-unstage-clause-objects g c = whole_files c.requires.rest c.requires.leaf c.in-Ok.ensures.readied c.requires.can c.requires.away c.requires.tree c.in_ok-dev.ensures.replaces c.in_ok-dev.ensures.bytes c.in_ok-dev.ensures.shut c.in-Ok-unstage.ensures.words
 
 pub returns-in-Ok-unstage-clause-counted : goal.returns-in-Ok-unstage-clause-counted
-returns-in-Ok-unstage-clause-counted g c = whole_counted c.requires.rest c.requires.leaf c.in-Ok.ensures.readied c.requires.can c.requires.away c.requires.tree c.in-Ok-replace_now.ensures.replaces c.in-Ok-replace_now.ensures.bytes c.in-Ok-replace_now.ensures.shut c.in-Ok-unstage.ensures.words
+returns-in-Ok-unstage-clause-counted g c = whole_counted c.requires.rest c.requires.leaf c.in-Ok.ensures.readied c.requires.can c.requires.away c.requires.tree c.in_ok-dev.ensures.replaces c.in_ok-dev.ensures.bytes c.in_ok-dev.ensures.shut c.in-Ok-unstage.ensures.words
 
 pub returns-in-Ok-unstage-clause-rest : goal.returns-in-Ok-unstage-clause-rest
-returns-in-Ok-unstage-clause-rest g c = whole_rest c.requires.rest c.requires.leaf c.in-Ok.ensures.readied c.requires.can c.requires.away c.requires.tree c.in-Ok-replace_now.ensures.replaces c.in-Ok-replace_now.ensures.bytes c.in-Ok-replace_now.ensures.shut c.in-Ok-unstage.ensures.words
+returns-in-Ok-unstage-clause-rest g c = whole_rest c.requires.rest c.requires.leaf c.in-Ok.ensures.readied c.requires.can c.requires.away c.requires.tree c.in_ok-dev.ensures.replaces c.in_ok-dev.ensures.bytes c.in_ok-dev.ensures.shut c.in-Ok-unstage.ensures.words
 
 pub returns-in-Ok-unstage-clause-settled : goal.returns-in-Ok-unstage-clause-settled
-returns-in-Ok-unstage-clause-settled g c = c.in-Ok-unstage.ensures.settled c.in-Ok-replace_now.ensures.settled
+returns-in-Ok-unstage-clause-settled g c = c.in-Ok-unstage.ensures.settled c.in_ok-dev.ensures.settled
 
 pub returns-in-Ok-unstage-clause-phase : goal.returns-in-Ok-unstage-clause-phase
 returns-in-Ok-unstage-clause-phase g c =
-    whole_phase c.requires.rest c.requires.leaf c.in-Ok.ensures.readied c.requires.can c.requires.away c.requires.tree c.in-Ok-replace_now.ensures.replaces c.in-Ok-replace_now.ensures.bytes c.in-Ok-replace_now.ensures.shut c.prepare_whole.ensures.phase c.in-Ok-replace_now.ensures.phase
-    (c.unstage.ensures.images c.in-Ok-replace_now.ensures.settled) c.unstage.ensures.either c.unstage.ensures.made
+    whole_phase c.requires.rest c.requires.leaf c.in-Ok.ensures.readied c.requires.can c.requires.away c.requires.tree c.in_ok-dev.ensures.replaces c.in_ok-dev.ensures.bytes c.in_ok-dev.ensures.shut c.prepare_whole.ensures.phase c.in_ok-dev.ensures.phase
+    (c.unstage.ensures.images c.in_ok-dev.ensures.settled) c.unstage.ensures.either c.unstage.ensures.made
 
 pub returns-in-Err-unstage-clause-phase : goal.returns-in-Err-unstage-clause-phase
 returns-in-Err-unstage-clause-phase g c =
-    whole_phase c.requires.rest c.requires.leaf c.in-Ok.ensures.readied c.requires.can c.requires.away c.requires.tree c.in-Ok-replace_now.ensures.replaces c.in-Ok-replace_now.ensures.bytes c.in-Ok-replace_now.ensures.shut c.prepare_whole.ensures.phase c.in-Ok-replace_now.ensures.phase
-    (c.unstage.ensures.images c.in-Ok-replace_now.ensures.settled) c.unstage.ensures.either c.unstage.ensures.made
+    whole_phase c.requires.rest c.requires.leaf c.in-Ok.ensures.readied c.requires.can c.requires.away c.requires.tree c.in_ok-dev.ensures.replaces c.in_ok-dev.ensures.bytes c.in_ok-dev.ensures.shut c.prepare_whole.ensures.phase c.in_ok-dev.ensures.phase
+    (c.unstage.ensures.images c.in_ok-dev.ensures.settled) c.unstage.ensures.either c.unstage.ensures.made

@@ -14,6 +14,7 @@ ghost use Rattle.ct_pm.specs.declared.step.Step.TheVariants.{Store, Flush};
 ghost use Rattle.ct_format.specs.Formatting.{Formats, HasWords, IsFormatImage, IsFormatWord, IsGate, IsHeadWord, IsLaidOut, IsTableWord, Laid, Lays, Makes, format_word, magic_steps};
 
 use crate::system::Fs;
+use ct_base::{LEAST_INODES, MOST_INODES};
 use ct_call::NoMount;
 use ct_format::make_image;
 use ct_pm::Pm;
@@ -23,11 +24,11 @@ use std::alloc::Global;
 ///
 /// # Errors
 ///
-/// `Damage(0)` exactly where the device has fewer than 256 or more than 262,144 pages, `Memory` where memory ran out: then
+/// `Damage(0)` exactly where the device has fewer than `LEAST_PAGES` or more than `MOST_PAGES` pages, `Memory` where memory ran out: then
 /// the device is as it was. `Fault` where the device failed.
 pub fn format<D: Pm>(alloc: Global, dev: D, inodes: u64) -> Result<Fs<D>, NoMount<D>>
-    requires two { 2 ≤ inodes }
-    requires few { inodes ≤ 1048576 }
+    requires two { LEAST_INODES ≤ inodes }
+    requires few { inodes ≤ MOST_INODES }
     requires settled { NothingPending (D.told dev) }
 
     ensures made { IfOk result (λ fs. IsSomeAnd (mounts fs) (λ now. IsNew (D.words now.dev) now.frames (D.page_count dev) inodes)) }

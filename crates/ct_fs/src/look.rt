@@ -9,6 +9,7 @@ ghost use Rattle.ct_tree.specs.Step.{list as list_call, listed_in, locate as loc
 ghost use Rattle.ct_tree.specs.Tree.{Tree};
 ghost use Rattle.ct_call.specs.Calls.{StandsFor};
 ghost use Rattle.ct_look.specs.Content.{IsRead};
+ghost use Rattle.ct_look.specs.Holes.{IsMappedAt, IsNextData};
 ghost use Rattle.ct_look.specs.Looks.{IsLook, IsPlaceAt, next_name, stat_answer};
 ghost use Rattle.ct_call.specs.Mounted.{Volume};
 ghost use Rattle.ct_base.specs.Walk.{byte};
@@ -17,7 +18,7 @@ ghost use Rattle.ct_fs.specs.Mounts.{device_of, mounts};
 use crate::system::Fs;
 use ct_base::{NameBuf, Vaddr};
 use ct_call::{FsError, Mounted, State};
-use ct_look::{Stat, answer_of, byte_at, locate_at, next_at, read_at, stat_at};
+use ct_look::{Stat, answer_of, byte_at, data_at, locate_at, next_at, read_at, stat_at};
 use ct_pm::Pm;
 
 impl<D: Pm> Fs<D> {
@@ -93,6 +94,29 @@ impl<D: Pm> Fs<D> {
     {
         match self.ready() {
             Some(mounted) => answer_of(read_at(&mounted.dev, path, off, len, buf)),
+            None => Err(FsError::Dead),
+        }
+    }
+
+    /// Where the data of a file come next, from an offset on, both in bytes: at the offset itself where its page is there, and
+    /// else where the next page that is there begins, a multiple of 4,096. All bytes between are 0. The answer is less than the
+    /// file's size; `None` where none come before its end, so that all bytes from the offset on are 0.
+    ///
+    /// A hole costs at most 512 looks for each table that is there, however long it is.
+    ///
+    /// # Errors
+    ///
+    /// `Dead` after a fault, and else `Refused` where the path leads to no file.
+    pub fn seek_data(&self, path: &[u8], off: u64) -> Result<Option<u64>, FsError>
+        ensures dead { IsNone (mounts self.now) ↔ (result ≡ Err FsError.Dead) }
+        ensures faultless { result ≢ Err FsError.Fault }
+        ensures answer { (was : Volume D) → mounts self.now ≡ Some was → (t : Tree) → StandsFor (D.words was.dev) t
+            → IsLook (refusal t (locate_call path.now)) (λ found. IsNextData (bytes_in (at t path.now)) off found) result }
+        ensures mapped { (was : Volume D) → mounts self.now ≡ Some was
+            → IfOk result (λ found. IfSome found (λ next. IsMappedAt (D.words was.dev) path.now next)) }
+    {
+        match self.ready() {
+            Some(mounted) => answer_of(data_at(&mounted.dev, path, off)),
             None => Err(FsError::Dead),
         }
     }

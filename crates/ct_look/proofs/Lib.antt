@@ -3,3 +3,4 @@ pub mod Listed
 pub mod Looking
 pub mod Peeking
 pub mod Reading
+pub mod Skipping

@@ -25,7 +25,7 @@ use Rattle.ct_call.specs.Mounted.{IsAtRest}
 use Rattle.ct_look.specs.declared.seen.Stat.TheVariants.{File as a_file, Dir as a_dir}
 
 -- the check of the node to which a path leads
-checked_by : (check : Result Tree Refusal → Option Refusal) (t n : Tree) (path : List ℕ) → bad_path path ≡ None → at t path ≡ Ok n → first_of (bad_path path ∷ check (at t path) ∷ []) ≡ first_of (check (Ok n) ∷ [])
+pub checked_by : (check : Result Tree Refusal → Option Refusal) (t n : Tree) (path : List ℕ) → bad_path path ≡ None → at t path ≡ Ok n → first_of (bad_path path ∷ check (at t path) ∷ []) ≡ first_of (check (Ok n) ∷ [])
 checked_by check t n path valid is =
     ap (λ q. first_of (q ∷ check (at t path) ∷ [])) valid ∙ ap (λ found. first_of (check found ∷ [])) is
 

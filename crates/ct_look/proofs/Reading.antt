@@ -57,13 +57,13 @@ module _ {w : List ℕ} {path : List ℕ} {d : Inode} (rest : IsAtRest w) (found
   has_pages = (rest.tables.some, rest.tables.there)
 
   -- a file with bytes lies in a partition
-  room_of : off < d.size → HasRoom d
+  pub room_of : off < d.size → HasRoom d
   room_of lt = elim (placed_at rest found).place [ inl n ↦ absurd (omega (arith, n.size, lt)) | inr r ↦ r ]
 
   pub content_high : off < d.size → d.base + d.size ≤ 2 ^ 48
   content_high lt = let r = room_of lt in omega (arith, part_high (part d) r.part, r.size)
 
-  content_byte : off < d.size → (k : ℕ) → k < d.size → content (view w) d.base d.size k ≡ byte w (d.base + k)
+  pub content_byte : off < d.size → (k : ℕ) → k < d.size → content (view w) d.base d.size k ≡ byte w (d.base + k)
   content_byte lt k in_size =
       let r = room_of lt in
       let low : 10 * 2 ^ 39 ≤ d.base = r.part.low in

@@ -4,6 +4,7 @@ use Rattle.std.specs.declared.result.Result.{Result}
 use Rattle.std.specs.declared.cmp.Ordering.{Ordering}
 use Rattle.std.specs.declared.cmp.Ordering.TheVariants.{Less, Equal, Greater}
 use Rattle.ct_base.specs.declared.inode.Inode.{Inode}
+use Rattle.ct_base.specs.declared.layout.TheConstants.{ROOT_PAGE}
 use Rattle.ct_base.specs.Inode.{IsLive, inode}
 use Rattle.ct_base.specs.Path.{name_cmp}
 use Rattle.ct_base.specs.View.{view, inode_count}
@@ -85,6 +86,6 @@ IsPlaceAt img path place =
 
 -- a page of the device, the root table or one that an entry names
 pub record IsOnDevice (img : List ℕ) (page : ℕ) : Type 0 where
-  pub low : 33 ≤ page
+  pub low : ROOT_PAGE ≤ page
   pub high : page < page_count img
   pub small : page < 2 ^ 52

@@ -6,11 +6,8 @@ ghost use Rattle.ct_look.specs.Content.{Fills, byte_of_word};
 ghost use Rattle.ct_look.specs.Looks.{IsOnDevice};
 
 use crate::peek::page_of;
-use ct_base::Vaddr;
+use ct_base::{ADDRESS_END, PAGE_BYTES, PAGE_WORDS, Vaddr};
 use ct_pm::Pm;
-
-/// The bytes of a page.
-const PAGE_BYTES: u64 = 4096;
 
 // Puts the eight bytes of a word into a buffer.
 fn put_word(buf: &mut [u8], place: usize, word: u64)
@@ -24,10 +21,10 @@ fn put_word(buf: &mut [u8], place: usize, word: u64)
 fn byte_in<D: Pm>(dev: &D, page: u64, o: u64) -> u8
     requires pages { HasPages (D.words dev.now) }
     requires page { IsOnDevice (D.words dev.now) page }
-    requires inside { o < 4096 }
+    requires inside { o < PAGE_BYTES }
     ensures { result ≡ byte_in (D.words dev.now) page o }
 {
-    let word = dev.load(page * 512 + o / 8);
+    let word = dev.load(page * PAGE_WORDS + o / 8);
     (word / 256u64.pow((o % 8) as u32) % 256) as u8
 }
 
@@ -35,7 +32,7 @@ fn byte_in<D: Pm>(dev: &D, page: u64, o: u64) -> u8
 fn put_bytes<D: Pm>(dev: &D, page: u64, from: u64, buf: &mut [u8], place: usize, count: usize)
     requires pages { HasPages (D.words dev.now) }
     requires page { IsOnDevice (D.words dev.now) page }
-    requires inside { from + count ≤ 4096 }
+    requires inside { from + count ≤ PAGE_BYTES }
     requires room { place + count ≤ length buf.old }
     ensures { Fills buf.old buf.new place count (λ k. byte_in (D.words dev.now) page (from + k)) }
 {
@@ -48,12 +45,16 @@ fn put_bytes<D: Pm>(dev: &D, page: u64, from: u64, buf: &mut [u8], place: usize,
 fn put_words<D: Pm>(dev: &D, page: u64, first: u64, buf: &mut [u8], place: usize, count: usize)
     requires pages { HasPages (D.words dev.now) }
     requires page { IsOnDevice (D.words dev.now) page }
-    requires inside { first + count ≤ 512 }
+    requires inside { first + count ≤ PAGE_WORDS }
     requires room { place + 8 * count ≤ length buf.old }
     ensures { Fills buf.old buf.new place (8 * count) (λ k. byte_in (D.words dev.now) page (8 * first + k)) }
 {
     for i in 0..count {
-        put_word(buf, place + 8 * i, dev.load(page * 512 + first + i as u64));
+        put_word(
+            buf,
+            place + 8 * i,
+            dev.load(page * PAGE_WORDS + first + i as u64),
+        );
     }
 }
 
@@ -61,7 +62,7 @@ fn put_words<D: Pm>(dev: &D, page: u64, first: u64, buf: &mut [u8], place: usize
 fn put_run<D: Pm>(dev: &D, page: u64, from: u64, buf: &mut [u8], place: usize, count: usize)
     requires pages { HasPages (D.words dev.now) }
     requires page { IsOnDevice (D.words dev.now) page }
-    requires inside { from + count ≤ 4096 }
+    requires inside { from + count ≤ PAGE_BYTES }
     requires room { place + count ≤ length buf.old }
     ensures { Fills buf.old buf.new place count (λ k. byte_in (D.words dev.now) page (from + k)) }
 {
@@ -92,7 +93,7 @@ fn put_zeros(buf: &mut [u8], place: usize, count: usize)
 // Puts bytes that lie in one page into a buffer, zeros where there is no page.
 fn put_page<D: Pm>(dev: &D, v: Vaddr, buf: &mut [u8], place: usize, count: usize)
     requires pages { HasPages (D.words dev.now) }
-    requires inside { v % 4096 + count ≤ 4096 }
+    requires inside { v % PAGE_BYTES + count ≤ PAGE_BYTES }
     requires room { place + count ≤ length buf.old }
     ensures { Fills buf.old buf.new place count (λ k. byte (D.words dev.now) (v + k)) }
 {
@@ -105,7 +106,7 @@ fn put_page<D: Pm>(dev: &D, v: Vaddr, buf: &mut [u8], place: usize, count: usize
 /// Puts the bytes from an address on at the front of a buffer.
 pub fn put_content<D: Pm>(dev: &D, from: u64, buf: &mut [u8], count: usize)
     requires pages { HasPages (D.words dev.now) }
-    requires high { from + count ≤ 2 ^ 48 }
+    requires high { from + count ≤ ADDRESS_END }
     requires room { count ≤ length buf.old }
     ensures { Fills buf.old buf.new 0 count (λ k. byte (D.words dev.now) (from + k)) }
 {

@@ -4,10 +4,12 @@
 #![tactic(auto)]
 
 mod content;
+mod holes;
 mod look;
 mod peek;
 mod seen;
 
+pub use holes::data_at;
 pub use look::{answer_of, locate_at, next_at, read_at, stat_at};
 pub use peek::byte_at;
 pub use seen::Stat;

@@ -15,19 +15,14 @@ ghost use Rattle.ct_call.specs.Mounted.{IsAtRest, Volume};
 
 use crate::content::put_content;
 use crate::seen::Stat;
-use ct_base::{Inode, NameBuf};
+use ct_base::{DIRECTORY_KIND, Inode, NameBuf};
 use ct_call::FsError;
 use ct_dir::{entries, name_at, next_after};
 use ct_inode::get;
 use ct_path::{refusal_of, resolve};
 use ct_pm::Pm;
 use ct_tree::Refusal;
-
-/// The kind of a directory.
-const DIRECTORY: u64 = 2;
-
-/// The longest read, in bytes.
-const READ_BYTES: u64 = 1_048_576;
+use ct_tree::checks::READ_BYTES;
 
 /// The answer of a mount that is ready.
 pub fn answer_of<T>(seen: Result<T, Refusal>) -> Result<T, FsError>
@@ -40,7 +35,7 @@ pub fn answer_of<T>(seen: Result<T, Refusal>) -> Result<T, FsError>
 }
 
 // The inode to which a path leads.
-fn inode_at<D: Pm>(dev: &D, path: &[u8]) -> Result<Inode, Refusal>
+pub(crate) fn inode_at<D: Pm>(dev: &D, path: &[u8]) -> Result<Inode, Refusal>
     requires { IsAtRest (D.words dev.now) }
     ensures { IsInodeAt (D.words dev.now) path.now result }
 {
@@ -56,7 +51,7 @@ pub fn stat_at<D: Pm>(dev: &D, path: &[u8]) -> Result<Stat, Refusal>
     ensures { (t : Tree) → StandsFor (D.words dev.now) t → answer_of result ≡ stat_answer (step t (stat_call path.now)).0 }
 {
     let inode = inode_at(dev, path)?;
-    if inode.kind == DIRECTORY {
+    if inode.kind == DIRECTORY_KIND {
         return Ok(Stat::Dir {
             count: entries(dev, inode),
         });
@@ -77,7 +72,7 @@ pub fn next_at<D: Pm>(
         (answer_of result) }
 {
     let inode = inode_at(dev, path)?;
-    if inode.kind != DIRECTORY {
+    if inode.kind != DIRECTORY_KIND {
         return Err(Refusal::NotDir);
     }
     match next_after(dev, inode, after) {
@@ -95,7 +90,7 @@ pub fn locate_at<D: Pm>(dev: &D, path: &[u8]) -> Result<(u64, u32), Refusal>
         (answer_of result) }
 {
     let inode = inode_at(dev, path)?;
-    if inode.kind == DIRECTORY {
+    if inode.kind == DIRECTORY_KIND {
         return Err(Refusal::IsDir);
     }
     Ok((inode.base, inode.level as u32))
@@ -117,7 +112,7 @@ pub fn read_at<D: Pm>(
     ensures kept { OnErr result (buf.new ≡ buf.old) }
 {
     let inode = inode_at(dev, path)?;
-    if inode.kind == DIRECTORY {
+    if inode.kind == DIRECTORY_KIND {
         return Err(Refusal::IsDir);
     }
     if len > READ_BYTES {

@@ -2,11 +2,11 @@ use Rattle.std.proofs.Common.{arith}
 use Rattle.ct_look.proofs.Looking.{level_small, locate_dir, locate_file}
 use Rattle.ct_look.proofs.look.locate_at.Goals as goal
 
-pub returns-then-inode-eq-DIRECTORY : goal.returns-then-inode-eq-DIRECTORY
-returns-then-inode-eq-DIRECTORY g c = λ t s. locate_dir c.requires c.in_ok-inode.ensures t s c.if-inode-eq-DIRECTORY.true
+pub returns-then-inode-eq-DIRECTORY_KIND : goal.returns-then-inode-eq-DIRECTORY_KIND
+returns-then-inode-eq-DIRECTORY_KIND g c = λ t s. locate_dir c.requires c.in_ok-inode.ensures t s c.if-inode-eq-DIRECTORY_KIND.true
 
 pub overflow_cast-result : goal.overflow_cast-result
 overflow_cast-result g c = omega (arith, level_small c.requires c.in_ok-inode.ensures)
 
 pub returns : goal.returns
-returns g c = λ t s. locate_file c.requires c.in_ok-inode.ensures t s c.if-inode-eq-DIRECTORY.false
+returns g c = λ t s. locate_file c.requires c.in_ok-inode.ensures t s c.if-inode-eq-DIRECTORY_KIND.false

@@ -20,7 +20,7 @@ use Rattle.ct_dump.proofs.Dumps.{dump_first, dump_second, short_fits}
 use Rattle.ct_dump.proofs.Places.{at_below, place_below}
 use Rattle.ct_dump.proofs.Rests.{IsRest, Found, found, first_is, fewer_nodes}
 
-entries_tree : (n : Tree) → IsTree n → AreEntries (entries_in n)
+pub entries_tree : (n : Tree) → IsTree n → AreEntries (entries_in n)
 entries_tree (File bytes) h = tt
 entries_tree (Dir es) h = h
 

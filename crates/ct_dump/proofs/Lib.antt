@@ -1,8 +1,6 @@
-mod Decoded
 pub mod Dumps
 pub mod Entered
 pub mod Holes
 pub mod Pieces
 pub mod Places
-mod Read
 pub mod Rests

@@ -1,7 +1,8 @@
 -- The script that makes a tree.
-use Rattle.std.specs.Prelude.{ℕ, zero, suc, ◌+◌, ◌/◌, ◌==◌, nat_le, Bool, if◌then◌else◌, List, [], ◌∷◌, ◌++◌, length, codes}
+use Rattle.std.specs.Prelude.{ℕ, zero, suc, ◌+◌, ◌-◌, ◌/◌, ◌==◌, nat_le, Bool, if◌then◌else◌, List, [], ◌∷◌, ◌++◌, length, codes}
 use Rattle.std.specs.Fmt.{decimal}
 use Rattle.std.specs.List.{list_all, flat_map}
+use Rattle.ct_base.specs.declared.layout.TheConstants.{PAGE_BYTES, PATH_BYTES}
 use Rattle.hex.specs.Hex.{encode_lower}
 use Rattle.ct_script.specs.Texts.{escaped, line_of}
 use Rattle.ct_tree.specs.Content.{range}
@@ -41,11 +42,11 @@ page_text path off bytes = if are_zeros bytes then [] else write_line path off b
 -- so many pages of a file from an offset on
 abbrev pub pages_text : List ℕ → List ℕ → ℕ → ℕ → List ℕ
 pages_text path bytes zero off = []
-pages_text path bytes (suc count) off = page_text path off (range bytes off 4096) ++ pages_text path bytes count (off + 4096)
+pages_text path bytes (suc count) off = page_text path off (range bytes off PAGE_BYTES) ++ pages_text path bytes count (off + PAGE_BYTES)
 
 -- how many pages hold so many bytes
 abbrev pub page_count : ℕ → ℕ
-page_count len = (len + 4095) / 4096
+page_count len = (len + (PAGE_BYTES - 1)) / PAGE_BYTES
 
 abbrev pub file_text : List ℕ → List ℕ → List ℕ
 file_text path bytes = create_line path ++ (size_text path (length bytes) ++ pages_text path bytes (page_count (length bytes)) 0)
@@ -91,7 +92,7 @@ dumped t = text_of (placed_below t)
 
 -- a path is short enough for a call
 abbrev pub is_short : Placed → Bool
-is_short p = nat_le (length p.path) 4096
+is_short p = nat_le (length p.path) PATH_BYTES
 
 abbrev pub are_short : List Placed → Bool
 are_short nodes = list_all is_short nodes

@@ -9,11 +9,8 @@ ghost use Rattle.ct_dump.specs.Looks.{LeadsTo, IsFile};
 
 use crate::lines::{put_create, put_page, put_size};
 use crate::seen::Seen;
-use ct_base::{Sink, WriteFault};
+use ct_base::{PAGE_BYTES, Sink, WriteFault};
 use ct_script::Quote;
-
-/// A page, in bytes.
-const PAGE_BYTES: u64 = 4096;
 
 /// Writes the lines of a file of this size.
 pub fn put_file<T: Seen, O: Sink>(
@@ -103,7 +100,7 @@ fn put_page_at<T: Seen, O: Sink>(
     off: u64,
 ) -> Result<(), WriteFault>
     requires { LeadsTo (T.tree tree.now) path.now IsFile }
-    ensures bytes { PutAppends (O.written out.old) (O.written out.new) result (page_text path.now off (range (bytes_in (at (T.tree tree.now) path.now)) off 4096)) }
+    ensures bytes { PutAppends (O.written out.old) (O.written out.new) result (page_text path.now off (range (bytes_in (at (T.tree tree.now) path.now)) off PAGE_BYTES)) }
     ensures cause { HasCause (O.faults out.old) (O.faults out.new) result }
 {
     let mut buffer = [0u8; 4096];

@@ -7,13 +7,13 @@ ghost use Rattle.ct_base.specs.Causes.{HasCause};
 ghost use Rattle.ct_script.specs.Texts.{escaped, line_of};
 ghost use Rattle.ct_dump.specs.Dumped.{head, number_text, create_line, mkdir_line, truncate_line, write_line};
 
-use ct_base::{Sink, WriteFault};
+use ct_base::{NAME_BYTES, PAGE_BYTES, Sink, WriteFault};
 use ct_script::Quote;
 use hex::encode_to_slice;
 use itoa::Buffer;
 
 /// How many bytes of a path are escaped at a time.
-const PIECE: usize = 248;
+const PIECE: usize = NAME_BYTES;
 
 /// Writes the line that makes a file.
 pub fn put_create<O: Sink>(out: &mut O, quote: &mut Quote, path: &[u8]) -> Result<(), WriteFault>
@@ -61,7 +61,7 @@ pub fn put_page<O: Sink>(
     off: u64,
     bytes: &[u8],
 ) -> Result<(), WriteFault>
-    requires { length bytes.now ≤ 4096 }
+    requires { length bytes.now ≤ PAGE_BYTES }
     ensures bytes { PutAppends (O.written out.old) (O.written out.new) result (write_line path.now off bytes.now) }
     ensures cause { HasCause (O.faults out.old) (O.faults out.new) result }
 {
@@ -73,7 +73,7 @@ pub fn put_page<O: Sink>(
 
 // Writes what follows the path in the line of a page.
 fn put_content<O: Sink>(out: &mut O, off: u64, bytes: &[u8]) -> Result<(), WriteFault>
-    requires { length bytes.now ≤ 4096 }
+    requires { length bytes.now ≤ PAGE_BYTES }
     ensures bytes { PutAppends (O.written out.old) (O.written out.new) result (number_text off ++ 32 ∷ line_of (encode_lower bytes.now)) }
     ensures cause { HasCause (O.faults out.old) (O.faults out.new) result }
 {
@@ -85,7 +85,7 @@ fn put_content<O: Sink>(out: &mut O, off: u64, bytes: &[u8]) -> Result<(), Write
 
 // Writes a space, the hexadecimal digits of bytes and the end of the line.
 fn put_data<O: Sink>(out: &mut O, bytes: &[u8]) -> Result<(), WriteFault>
-    requires { length bytes.now ≤ 4096 }
+    requires { length bytes.now ≤ PAGE_BYTES }
     ensures bytes { PutAppends (O.written out.old) (O.written out.new) result (32 ∷ line_of (encode_lower bytes.now)) }
     ensures cause { HasCause (O.faults out.old) (O.faults out.new) result }
 {
@@ -96,7 +96,7 @@ fn put_data<O: Sink>(out: &mut O, bytes: &[u8]) -> Result<(), WriteFault>
 }
 
 fn put_digits_line<O: Sink>(out: &mut O, bytes: &[u8]) -> Result<(), WriteFault>
-    requires { length bytes.now ≤ 4096 }
+    requires { length bytes.now ≤ PAGE_BYTES }
     ensures bytes { PutAppends (O.written out.old) (O.written out.new) result (line_of (encode_lower bytes.now)) }
     ensures cause { HasCause (O.faults out.old) (O.faults out.new) result }
 {
@@ -108,7 +108,7 @@ fn put_digits_line<O: Sink>(out: &mut O, bytes: &[u8]) -> Result<(), WriteFault>
 
 // Writes the hexadecimal digits of a page's bytes at once.
 fn put_digits<O: Sink>(out: &mut O, bytes: &[u8]) -> Result<(), WriteFault>
-    requires { length bytes.now ≤ 4096 }
+    requires { length bytes.now ≤ PAGE_BYTES }
     ensures bytes { PutAppends (O.written out.old) (O.written out.new) result (encode_lower bytes.now) }
     ensures cause { HasCause (O.faults out.old) (O.faults out.new) result }
 {

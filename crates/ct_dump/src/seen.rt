@@ -8,7 +8,7 @@ ghost use Rattle.ct_tree.specs.Resolve.{IsDir};
 ghost use Rattle.ct_dump.specs.Dumped.{are_zeros};
 ghost use Rattle.ct_dump.specs.Looks.{LeadsTo, IsNode, IsFile, size_of, entries_at, least_after};
 
-use ct_base::NameBuf;
+use ct_base::{NameBuf, PAGE_BYTES};
 
 /// A tree that is seen by its paths. No call takes memory.
 pub trait Seen {
@@ -29,17 +29,17 @@ pub trait Seen {
     /// Puts a file's bytes from `off` on at the front of `buf`, as many as fit and are there, and answers their number.
     fn bytes(&self, path: &[u8], off: u64, buf: &mut [u8]) -> usize
         requires file { LeadsTo (tree self.now) path.now IsFile }
-        requires page { length buf.old ≡ 4096 }
-        ensures count { result ≡ min 4096 (length (bytes_in (at (tree self.now) path.now)) - off) }
-        ensures bytes { take result buf.new ≡ range (bytes_in (at (tree self.now) path.now)) off 4096 };
+        requires page { length buf.old ≡ PAGE_BYTES }
+        ensures count { result ≡ min PAGE_BYTES (length (bytes_in (at (tree self.now) path.now)) - off) }
+        ensures bytes { take result buf.new ≡ range (bytes_in (at (tree self.now) path.now)) off PAGE_BYTES };
 
     /// The first page from one on, given by its offset, that can hold a byte other than 0: all bytes before it are 0. A
     /// tree that knows where its files have holes leads over them, so that they cost no look a page.
     fn next_page(&self, _path: &[u8], off: u64) -> u64
         requires file { LeadsTo (tree self.now) _path.now IsFile }
-        requires whole { off % 4096 ≡ 0 }
+        requires whole { off % PAGE_BYTES ≡ 0 }
         ensures later { off ≤ result }
-        ensures whole { result % 4096 ≡ 0 }
+        ensures whole { result % PAGE_BYTES ≡ 0 }
         ensures zeros { are_zeros (range (bytes_in (at (tree self.now) _path.now)) off (result - off)) ≡ true }
     {
         off

@@ -15,11 +15,8 @@ use crate::file::put_file;
 use crate::lines::put_mkdir;
 use crate::seen::Seen;
 use arrayvec::ArrayVec;
-use ct_base::{NameBuf, Sink, WriteFault};
+use ct_base::{NameBuf, PATH_BYTES, Sink, WriteFault};
 use ct_script::Quote;
-
-/// The longest path, in bytes.
-const PATH_BYTES: usize = 4096;
 
 /// A buffer for one path; the root's is empty.
 type PathBuf = ArrayVec<u8, PATH_BYTES>;
@@ -114,7 +111,7 @@ fn put_lines<T: Seen, O: Sink>(
 
 // Leads a path to an entry, for which there is room.
 fn lead_below(path: &mut PathBuf, name: &[u8])
-    requires { length path.old.items + 1 + length name.now ≤ 4096 }
+    requires { length path.old.items + 1 + length name.now ≤ PATH_BYTES }
     ensures { path.new.items ≡ path_below path.old.items name.now }
 {
     path.push(b'/');

@@ -1,0 +1,11 @@
+pub mod Builds
+pub mod Calls
+pub mod Content
+pub mod Files
+pub mod Follows
+pub mod Inserted
+pub mod Landed
+pub mod NewNames
+pub mod Numerals
+pub mod Whole
+pub mod Words

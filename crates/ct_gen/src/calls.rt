@@ -4,13 +4,17 @@ ghost use Rattle.std.specs.Iterator.{YieldsFirstBy, item_count};
 ghost use Rattle.ct_gen.specs.Made.{drawn, gen_op, made, next_state};
 
 use crate::GenCall;
+use ct_base::PAGE_BYTES;
 use std::marker::Model;
 
 /// How many files there are.
 const FILES: u64 = 16;
 
-/// The bytes of a page.
-const PAGE: u64 = 4096;
+/// The bytes of the parts of a page that some fills go by: an eighth of a page.
+pub const PART_BYTES: u64 = 512;
+
+/// The most draws of a workload.
+pub const MOST_DRAWS: u64 = 1_000_000;
 
 /// The calls that are still to come.
 #[derive(Drop)]
@@ -49,20 +53,20 @@ fn draw(q: u64) -> GenCall
 {
     let file = q / 8 % FILES;
     let next = (file + 1) % FILES;
-    let off = PAGE * (q / 128 % 64);
+    let off = PAGE_BYTES * (q / 128 % 64);
     let count = 1 + q / 8192 % 8;
     let byte = (q / 65_536 % 256) as u8;
     match q % 8 {
         0 | 1 => GenCall::Fill {
             file,
             off,
-            len: PAGE * count,
+            len: PAGE_BYTES * count,
             byte,
         },
         2 => GenCall::Fill {
             file,
             off: off + byte as u64,
-            len: 512 * count,
+            len: PART_BYTES * count,
             byte,
         },
         3 => GenCall::Append { file, byte },

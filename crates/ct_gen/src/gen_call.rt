@@ -1,14 +1,11 @@
 // One call of the workload.
 ghost use Rattle.std.specs.Prelude.{◌≡◌, ◌++◌, ◌∷◌, [], codes, decimal};
-ghost use Rattle.ct_tree.specs.Step.{op_of};
+ghost use Rattle.ct_tree.specs.Step.{exchange, op_of, read};
 ghost use Rattle.ct_gen.specs.Made.{file_path, gen_op};
 
-use ct_base::NameBuf;
+use ct_base::{NameBuf, PAGE_BYTES};
 use ct_tree::Call;
 use itoa::Buffer;
-
-/// How many bytes one read or exchange of the workload spans.
-const PAGE_BYTES: u64 = 4096;
 
 /// A call, held by its numbers alone. Files are named by a number, offsets and lengths are in bytes.
 #[derive(Clone, Copy, Debug, PartialEq, Eq, Drop)]
@@ -73,6 +70,30 @@ fn byte_of<'a>(byte: u8, bytes: &'a mut NameBuf) -> &'a [u8]
     bytes.as_slice()
 }
 
+// A read of one page.
+fn page_read<'a>(path: &'a [u8], off: u64) -> Call<'a>
+    ensures { op_of result ≡ read path.now off PAGE_BYTES }
+{
+    Call::Read {
+        path,
+        off,
+        len: PAGE_BYTES,
+    }
+}
+
+// An exchange of one page of two files, at the same offset of both.
+fn page_exchange<'a>(path: &'a [u8], other: &'a [u8], off: u64) -> Call<'a>
+    ensures { op_of result ≡ exchange path.now off other.now off PAGE_BYTES }
+{
+    Call::Exchange {
+        path,
+        off,
+        other,
+        other_off: off,
+        len: PAGE_BYTES,
+    }
+}
+
 impl GenCall {
     /// The call. Its paths are written into the two buffers; of an append the path into the first, and the byte into the
     /// second.
@@ -102,18 +123,10 @@ impl GenCall {
                 path: path_of(file, first),
                 len,
             },
-            GenCall::Read { file, off } => Call::Read {
-                path: path_of(file, first),
-                off,
-                len: PAGE_BYTES,
-            },
-            GenCall::Exchange { file, other, off } => Call::Exchange {
-                path: path_of(file, first),
-                off,
-                other: path_of(other, second),
-                other_off: off,
-                len: PAGE_BYTES,
-            },
+            GenCall::Read { file, off } => page_read(path_of(file, first), off),
+            GenCall::Exchange { file, other, off } => {
+                page_exchange(path_of(file, first), path_of(other, second), off)
+            }
             GenCall::Rename { file, to } => Call::Rename {
                 path: path_of(file, first),
                 to: path_of(to, second),

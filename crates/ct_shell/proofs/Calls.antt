@@ -20,7 +20,7 @@ use Rattle.ct_script.proofs.Puts.{rose_after}
 use Rattle.ct_script.specs.Shows.{reply_of}
 use Rattle.ct_script.specs.Texts.{reply_line}
 use Rattle.ct_script.specs.declared.reply.Shown.{Shown}
-use Rattle.ct_script.specs.declared.reply.Shown.TheVariants.{File, Dir, At, Refused, BadLine}
+use Rattle.ct_script.specs.declared.reply.Shown.TheVariants.{Data as DataOf, File, Dir, At, Refused, BadLine}
 use Rattle.ct_pm.proofs.OneWord.{Replays}
 use Rattle.ct_tree.specs.Checks.{at, bad_path, first_of, no_node}
 use Rattle.ct_tree.specs.Content.{bytes_in, range}
@@ -276,6 +276,10 @@ read_passes c t path off len state replays old new n keeps look =
     let front : take n new ≡ bytes = ap (take n) look.1.1 ∙ take_at bytes (drop n old) n (sym look.1.0) in
     passes_still c t (call (read path off len)) state replays (Data (take n new)) keeps
     (ap (λ (list : List ℕ). (Data list, t)) front ∙ sym (ap (λ o. answered o t (effect t (read path off len))) look.0), λ none node. absurd node) tt tt
+
+pub read_told : {D : Type 0} {bound : _} (c : ℕ) (t : Tree) (path : List ℕ) (off len : ℕ) (state : Option (State D bound)) (bytes : Bor (List ℕ)) → Keeps c state t
+    → Passed c t (call (read path off len)) (Data bytes.now) t (moment_in state) (moment_in state) → Replies c t (call (read path off len)) state state (Some (DataOf bytes))
+read_told c t path off len state bytes keeps passed = record { answered = (t, passed, keeps); later = omega arith; fault = λ none. absurd (true≢false none); begun = λ none. absurd (true≢false none) }
 
 pub read_refused : {D : Type 0} {bound : _} (c : ℕ) (t : Tree) (path : List ℕ) (off len : ℕ) (state : Option (State D bound)) (replays : (dev : D) → Replays (bound.told dev) (bound.words dev)) (old new : List ℕ) (error : FsError) (reply : Option Shown) → reply ≡ error_reply error → Keeps c state t
     → IsLook (refusal t (read path off len)) (IsRead (range (bytes_in (at t path)) off len) old new) (Err error) → Replies c t (call (read path off len)) state state reply

@@ -39,7 +39,7 @@ pub entries_told : (t : Tree) (path : List ℕ) (result : Result Stat FsError) �
 entries_told t path result is = subst (λ r. IsLook (refusal t (list path)) (λ count. count ≡ length (listed_in (at t path))) (entries_of r)) (sym is) (entries_case t (bad_path path) (at t path))
 
 -- a name before the entries is before each of them
-below_each : (y : List ℕ) (es : Entries) (i : ℕ) (x : List ℕ) → IsBelow y es → slice_get (names_in es) i ≡ Some x → name_cmp y x ≡ Less
+pub below_each : (y : List ℕ) (es : Entries) (i : ℕ) (x : List ℕ) → IsBelow y es → slice_get (names_in es) i ≡ Some x → name_cmp y x ≡ Less
 below_each y none i x below is = absurd (cc)
 below_each y (entry z node rest) zero x below is = let same : z ≡ x = cc in subst (λ n. name_cmp y n ≡ Less) same below.0
 below_each y (entry z node rest) (suc i) x below is = below_each y rest i x below.1 is

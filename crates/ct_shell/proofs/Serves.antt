@@ -35,7 +35,7 @@ passes_then c t m u (i ∷ is) js [] ss f g h p q = absurd p
 passes_then c t m u (i ∷ is) js (r ∷ rs) ss f g h p q = (p.0, p.1, p.2, passes_then c p.0 m u is js rs ss p.1 g h p.3 q)
 
 -- what was begun is so with more items after it
-begun_more : (t : Tree) (is js : List Item) (f g : Moment) → IsBegun t is f g → IsBegun t (is ++ js) f g
+pub begun_more : (t : Tree) (is js : List Item) (f g : Moment) → IsBegun t is f g → IsBegun t (is ++ js) f g
 begun_more t [] js f g begun = absurd begun
 begun_more t (bad ∷ is) js f g begun = absurd begun
 begun_more t (call op ∷ is) js f g begun = begun
@@ -52,6 +52,11 @@ ran_then c start t u all xs more rest rs ss f g h one two = record {
   runs = runs_then c start t u one.done two.done rs ss one.runs two.runs;
   passes = passes_then c start t u one.done two.done rs ss f g h one.passes two.passes;
 }
+
+-- one item more
+pub ran_more : (c : ℕ) (start t t' : Tree) (all rest : List Item) (item : Item) (rs : List Reply) (reply : Reply) (f g h : Moment) → Ran c start t all (item ∷ rest) rs f g → Passed c t item reply t' g h → Ran c start t' all rest (rs ++ reply ∷ []) f h
+ran_more c start t t' all rest item rs reply f g h had passed =
+    ran_then c start t t' all (item ∷ []) rest [] rs (reply ∷ []) f g h had (record { done = item ∷ []; split = refl; runs = (t', passed.answers, refl); passes = (t', h, passed, (refl, refl)) })
 
 pub ran_none : (c : ℕ) (t : Tree) (all : List Item) (f : Moment) → Ran c t t all all [] f f
 ran_none c t all f = record { done = []; split = refl; runs = refl; passes = (refl, refl) }

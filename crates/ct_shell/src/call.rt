@@ -2,7 +2,7 @@
 ghost use Rattle.std.specs.Prelude.{◌≡◌, ◌≢◌, ◌≤◌, ℕ, [], ◌∷◌, Err, MatchOption, true, false};
 ghost use Rattle.ct_base.specs.Bytes.{PutAppends};
 ghost use Rattle.ct_base.specs.Causes.{Rose};
-ghost use Rattle.ct_call.specs.Calls.{Keeps};
+ghost use Rattle.ct_call.specs.Calls.{IsChange, Keeps};
 ghost use Rattle.ct_script.specs.Shows.{reply_of};
 ghost use Rattle.ct_script.specs.Texts.{reply_line};
 ghost use Rattle.ct_tree.specs.Runs.{call as call_item};
@@ -10,7 +10,7 @@ ghost use Rattle.ct_tree.specs.Step.{op_of};
 ghost use Rattle.ct_tree.specs.Tree.{Tree};
 ghost use Rattle.ct_shell.specs.Script.{is_change};
 ghost use Rattle.ct_shell.specs.Served.{Serves};
-ghost use Rattle.ct_shell.specs.Shows.{error_reply, made_reply, place_reply, stat_reply};
+ghost use Rattle.ct_shell.specs.Shows.{Replies, error_reply, made_reply, place_reply, stat_reply};
 
 use crate::buffers::ReplyBuffers;
 use crate::list::list;
@@ -82,7 +82,7 @@ pub fn serve_call<D: Pm, O: Sink>(
     ensures fault { result ≡ Err ServeEnd.Output → Rose (O.faults out.old) (O.faults out.new) }
 {
     if is_change(call) {
-        return send(out, made_reply(fs.change(call)));
+        return send(out, reply_to_change(fs, call));
     }
     match *call {
         Call::Stat { path } => send(out, stat_reply(fs.stat(path))),
@@ -93,6 +93,15 @@ pub fn serve_call<D: Pm, O: Sink>(
         }
         _ => unreachable!(),
     }
+}
+
+/// Makes a call that changes the tree, and answers its reply. There is none where the device failed.
+pub fn reply_to_change<D: Pm>(fs: &mut Fs<D>, call: &Call<'_>) -> Option<Shown<'static>>
+    requires { IsChange (op_of call.now) }
+    ensures { (count : ℕ) (t : Tree) → Keeps count fs.old.state t
+        → Replies count t (call_item (op_of call.now)) fs.old.state fs.new.state result }
+{
+    made_reply(fs.change(call))
 }
 
 /// Writes the line of a reply. There is none where the device failed.

@@ -11,5 +11,6 @@ mod read;
 mod script;
 
 pub use buffers::ReplyBuffers;
-pub use call::ServeEnd;
+pub use call::{ServeEnd, reply_to_change};
+pub use read::reply_to_read;
 pub use script::{ReadEnd, read_all, serve};

@@ -6,22 +6,16 @@ use Rattle.ct_script.specs.declared.reply.Shown.{Shown}
 use Rattle.std.specs.declared.option.Option.{Option}
 use Rattle.ct_shell.specs.Served.{Serves}
 use Rattle.ct_shell.specs.Shows.{Replies}
-use Rattle.ct_shell.proofs.Calls.{changes, made_replies, place_replies, served_reply, no_other, stat_replies}
+use Rattle.ct_shell.proofs.Calls.{changes, place_replies, served_reply, no_other, stat_replies}
 use Rattle.ct_shell.proofs.call.serve_call.Goals as goal
 
-pub change-requires : goal.change-requires
-change-requires g c = changes (op_of c.args.call.now) (sym c.is_change.ensures ∙ c.if-is_change.true)
+pub reply_to_change-requires : goal.reply_to_change-requires
+reply_to_change-requires g c = changes (op_of c.args.call.now) (sym c.is_change.ensures ∙ c.if-is_change.true)
 
 pub returns-then-is_change-clause-serves : goal.returns-then-is_change-clause-serves
 returns-then-is_change-clause-serves g c n t keeps =
-    let op = op_of c.args.call.now in
-    let from = c.args.fs.now.state in
-    let to = c.change.new.self.state in
-    let old = g.O.Sink.written c.args.out.now in
-    let new = g.O.Sink.written c.send.new.out in
-    let replies : Replies n t (call_item op) from to c.made_reply.result =
-    subst (λ (o : Option Shown). Replies n t (call_item op) from to o) (sym c.made_reply.ensures) (made_replies n t op from to g.met.D.Pm.replays c.change.result keeps c.change.ensures.does c.change.ensures.places) in
-    served_reply n t (call_item op) from to old new c.send.result c.made_reply.result replies c.send.ensures.bytes
+    served_reply n t (call_item (op_of c.args.call.now)) c.args.fs.now.state c.reply_to_change.new.fs.state (g.O.Sink.written c.args.out.now) (g.O.Sink.written c.send.new.out) c.send.result
+    c.reply_to_change.result (c.reply_to_change.ensures n t keeps) c.send.ensures.bytes
 
 pub returns-in-Stat-clause-serves : goal.returns-in-Stat-clause-serves
 returns-in-Stat-clause-serves g c n t keeps =

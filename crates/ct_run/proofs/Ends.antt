@@ -1,6 +1,6 @@
 -- How a run ends whose device was not made a file system, and where one that was stands.
 use Rattle.std.proofs.Common.{◌≡◌, ℕ, List, Option, Some, refl, sym, inl, ap, subst, ◌∙◌}
-use Rattle.std.specs.Prelude.{◌↔◌, IsSomeAnd, map}
+use Rattle.std.specs.Prelude.{◌↔◌, IsSomeAnd}
 use Rattle.ct_base.specs.Format.{IsFormatted}
 use Rattle.ct_call.specs.Seen.{ready_in}
 use Rattle.ct_call.specs.declared.mount.Why.{Why}

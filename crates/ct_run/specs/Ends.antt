@@ -15,6 +15,7 @@ use Rattle.ct_shell.specs.Moments.{Begins, Moment}
 use Rattle.ct_shell.specs.Served.{Served, Stopped, StoppedBy}
 use Rattle.ct_shell.specs.declared.call.ServeEnd.TheVariants.{Device, Output}
 use Rattle.ct_run.specs.Words.{mem_inodes}
+use Rattle.ct_run.specs.declared.serving.TheConstants.{SCRIPT_BYTES}
 use Rattle.ct_run.specs.declared.status.Status.{Status}
 use Rattle.ct_run.specs.declared.status.Status.TheVariants.{Done, Usage, NotImage, DeviceFault, ReadFault, WriteFault, NoMemory, TooLong}
 
@@ -67,7 +68,7 @@ IsUnserved NoMemory = Unit {0}
 
 -- the input was read to its end, and gave no more bytes than a script may have
 abbrev pub IsReadWhole : List ℕ → Option (List ℕ) → Type 0
-IsReadWhole given rest = IsAtEnd rest × (length given ≤ 16777216)
+IsReadWhole given rest = IsAtEnd rest × (length given ≤ SCRIPT_BYTES)
 
 -- no item was served of those whose lines were ended: nothing was written, and no step was made
 pub record Waits (c : ℕ) (t : Tree) (given : List ℕ) (old new : Option (List ℕ)) (from to : Moment) : Type 0 where
@@ -81,8 +82,8 @@ Leaves c t Done given rest old new from to =
     IsReadWhole given rest × ((left : Tree) × Holds c left to.words to.told × Served c t left (items given) [] old new from to)
 Leaves c t DeviceFault given rest old new from to = IsReadWhole given rest × StoppedBy Device c t (items given) old new from to
 Leaves c t WriteFault given rest old new from to = IsReadWhole given rest × StoppedBy Output c t (items given) old new from to
-Leaves c t ReadFault given rest old new from to = (length given ≤ 16777216) × Waits c t given old new from to
-Leaves c t TooLong given rest old new from to = (16777216 < length given) × Waits c t given old new from to
+Leaves c t ReadFault given rest old new from to = (length given ≤ SCRIPT_BYTES) × Waits c t given old new from to
+Leaves c t TooLong given rest old new from to = (SCRIPT_BYTES < length given) × Waits c t given old new from to
 Leaves c t Usage given rest old new from to = ⊥
 Leaves c t (NotImage rule) given rest old new from to = ⊥
 Leaves c t NoMemory given rest old new from to = ⊥

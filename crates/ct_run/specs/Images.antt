@@ -10,8 +10,9 @@ use Rattle.ct_tree.specs.Lands.{Lands}
 use Rattle.ct_tree.specs.Tree.{Dir, Tree, none}
 use Rattle.ct_shell.specs.Moments.{Begins, Moment, RestsOn}
 use Rattle.ct_run.specs.Ends.{Ends, IsMade, IsUnused, Unmade}
+use Rattle.ct_run.specs.Words.{TakesImage}
 use Rattle.ct_run.specs.declared.command.Command.{Command}
-use Rattle.ct_run.specs.declared.command.Command.TheVariants.{Mem, Run, Format}
+use Rattle.ct_run.specs.declared.command.Command.TheVariants.{Mem, Run, Format, Gen, Dump}
 use Rattle.ct_run.specs.declared.status.Status.{Status}
 use Rattle.ct_run.specs.declared.status.Status.TheVariants.{Done, DeviceFault, NoMemory, NotImage}
 
@@ -59,11 +60,13 @@ IsNoImage None pages words rule = ⊥
 IsNoImage (Some Mem) pages words rule = (rule ≡ 0) × IsMissized pages
 IsNoImage (Some Run) pages words rule = IsFirst words rule
 IsNoImage (Some (Format inodes)) pages words rule = (rule ≡ 0) × IsMissized pages
+IsNoImage (Some (Gen number count)) pages words rule = (rule ≡ 0) × IsMissized pages
+IsNoImage (Some Dump) pages words rule = IsFirst words rule
 
 -- how a run ends then: memory may run out before, and where the rule is not one of the head the device may fail
 abbrev pub IsRefusal : ℕ → Status → Type 0
 IsRefusal rule status = (status ≡ NotImage rule) ⊎ (status ≡ NoMemory) ⊎ ((status ≡ DeviceFault) × (8 ≤ rule))
 
--- the device is as it was, but that the command to run may have settled it
+-- the device is as it was, but that a command that mounts it may have settled it
 abbrev pub IsUntouched : {D : Type 0} → Option Command → D → D → Moment → Moment → Type 0
-IsUntouched command dev dev' from to = (dev' ≡ dev) ⊎ ((command ≡ Some Run) × Settles from to)
+IsUntouched command dev dev' from to = (dev' ≡ dev) ⊎ (TakesImage command × Settles from to)

@@ -1,5 +1,5 @@
 // A script served over a file system that stands.
-ghost use Rattle.std.specs.Prelude.{◌≡◌, ◌<◌, ◌≤◌, ℕ, IfOk, IfSome, IsSomeAnd, length};
+ghost use Rattle.std.specs.Prelude.{◌≡◌, ◌+◌, ◌<◌, ◌≤◌, ℕ, IfOk, IfSome, IsSomeAnd, length};
 ghost use Rattle.ct_call.specs.Calls.{Keeps};
 ghost use Rattle.ct_call.specs.Seen.{faults_in};
 ghost use Rattle.ct_run.specs.Ends.{Ends, HasCauses, IsCutShort, IsServed, IsUnserved};
@@ -15,7 +15,7 @@ use ct_shell::{ReadEnd, ReplyBuffers, ServeEnd, read_all, serve};
 use std::alloc::Global;
 
 /// The longest script, in bytes.
-const SCRIPT_BYTES: usize = 16_777_216;
+pub const SCRIPT_BYTES: usize = 16_777_216;
 
 /// The memory of a run: for the script, for one call, and for its reply.
 #[derive(Drop)]
@@ -27,7 +27,7 @@ pub struct Buffers {
 
 impl Buffers {
     pub fn new(alloc: Global) -> Result<Buffers, NoMemory>
-        ensures { IfOk result (λ buffers. length buffers.script.items ≡ 16777217) }
+        ensures { IfOk result (λ buffers. length buffers.script.items ≡ SCRIPT_BYTES + 1) }
     {
         let script = match vec![in alloc; 0u8; SCRIPT_BYTES + 1] {
             Ok(script) => script,
@@ -50,7 +50,7 @@ fn serve_all<D: Pm, S: Source, O: Sink>(
     input: &mut S,
     out: &mut O,
 ) -> Status
-    requires long { length buffers.old.script.items ≡ 16777217 }
+    requires long { length buffers.old.script.items ≡ SCRIPT_BYTES + 1 }
     ensures ends { (count : ℕ) (t : Tree) → Keeps count fs.old.state t
         → Ends count t result (S.rest input.old) (S.rest input.new) (O.written out.old) (O.written out.new)
         (moment_in fs.old.state) (moment_in fs.new.state) }
@@ -59,8 +59,8 @@ fn serve_all<D: Pm, S: Source, O: Sink>(
     ensures later { (count : ℕ) (t : Tree) → Keeps count fs.old.state t → faults_in fs.old.state ≤ faults_in fs.new.state }
     ensures causes { (count : ℕ) (t : Tree) → Keeps count fs.old.state t
         → HasCauses result (faults_in fs.old.state) (faults_in fs.new.state) (S.faults input.old) (S.faults input.new) (O.faults out.old) (O.faults out.new) }
-    ensures too_long { result ≡ Status.TooLong → IfSome (S.rest input.old) (λ script. 16777216 < length script) }
-    ensures long { IsSomeAnd (S.rest input.old) (λ script. 16777216 < length script) → IsCutShort result }
+    ensures too_long { result ≡ Status.TooLong → IfSome (S.rest input.old) (λ script. SCRIPT_BYTES < length script) }
+    ensures long { IsSomeAnd (S.rest input.old) (λ script. SCRIPT_BYTES < length script) → IsCutShort result }
 {
     let buffer = buffers.script.as_mut_slice();
     let count = match read_all(input, buffer) {
@@ -83,7 +83,7 @@ pub fn serve_on<D: Pm, S: Source, O: Sink>(
     input: &mut S,
     out: &mut O,
 ) -> Outcome<D>
-    requires long { length buffers.old.script.items ≡ 16777217 }
+    requires long { length buffers.old.script.items ≡ SCRIPT_BYTES + 1 }
     ensures ends { (count : ℕ) (t : Tree) → Keeps count fs.state t
         → Ends count t result.status (S.rest input.old) (S.rest input.new) (O.written out.old) (O.written out.new)
         (moment_in fs.state) (moment (D.told result.dev) (D.words result.dev)) }
@@ -92,8 +92,8 @@ pub fn serve_on<D: Pm, S: Source, O: Sink>(
     ensures later { (count : ℕ) (t : Tree) → Keeps count fs.state t → faults_in fs.state ≤ D.faults result.dev }
     ensures causes { (count : ℕ) (t : Tree) → Keeps count fs.state t
         → HasCauses result.status (faults_in fs.state) (D.faults result.dev) (S.faults input.old) (S.faults input.new) (O.faults out.old) (O.faults out.new) }
-    ensures too_long { result.status ≡ Status.TooLong → IfSome (S.rest input.old) (λ script. 16777216 < length script) }
-    ensures long { IsSomeAnd (S.rest input.old) (λ script. 16777216 < length script) → IsCutShort result.status }
+    ensures too_long { result.status ≡ Status.TooLong → IfSome (S.rest input.old) (λ script. SCRIPT_BYTES < length script) }
+    ensures long { IsSomeAnd (S.rest input.old) (λ script. SCRIPT_BYTES < length script) → IsCutShort result.status }
 {
     let mut fs = fs;
     let status = serve_all(&mut fs, buffers, input, out);

@@ -8,17 +8,23 @@ ghost use Rattle.ct_pm.specs.Device.{NothingPending};
 ghost use Rattle.ct_tree.specs.Lands.{Lands};
 ghost use Rattle.ct_tree.specs.Ordered.{IsTree};
 ghost use Rattle.ct_tree.specs.Tree.{Tree};
+ghost use Rattle.ct_run.specs.Dumps.{EndsDump};
 ghost use Rattle.ct_run.specs.Ends.{EndsMem, HasCauses, IsCutShort, IsDoneOrNoMemory, IsServed, IsUnbegun, IsUnserved, IsUnused};
 ghost use Rattle.ct_run.specs.Images.{EndsFormat, EndsRun, IsNoImage, IsRefusal, IsUntouched, Settles};
+ghost use Rattle.ct_run.specs.Limits.{IsShortEnough, WasTooLong};
 ghost use Rattle.ct_run.specs.Words.{TakesScript, command_of};
+ghost use Rattle.ct_run.specs.Workloads.{EndsGen};
 ghost use Rattle.ct_run.specs.declared.command.Command.{Command};
 ghost use Rattle.ct_shell.specs.Moments.{moment};
 
 use crate::command::{Command, command_of};
-use crate::serving::{Buffers, serve_on};
+use crate::dumping::dump;
+use crate::serving::{Buffers, SCRIPT_BYTES, serve_on};
 use crate::status::{Outcome, Status, refused};
-use ct_base::{Sink, Source};
+use crate::working::{Page, work_on};
+use ct_base::{LEAST_INODES, MOST_INODES, Sink, Source};
 use ct_fs::{format, mount};
+use ct_gen::MOST_DRAWS;
 use ct_pm::Pm;
 use std::alloc::Global;
 
@@ -38,8 +44,8 @@ fn mem<D: Pm, S: Source, O: Sink>(alloc: Global, dev: D, input: &mut S, out: &mu
     ensures refused { (rule : ℕ) → (rule ≡ 0) × IsMissized (D.page_count dev) → IsRefusal rule result.status }
     ensures later { D.faults dev ≤ D.faults result.dev }
     ensures causes { HasCauses result.status (D.faults dev) (D.faults result.dev) (S.faults input.old) (S.faults input.new) (O.faults out.old) (O.faults out.new) }
-    ensures too_long { result.status ≡ Status.TooLong → IfSome (S.rest input.old) (λ script. 16777216 < length script) }
-    ensures long { IsSomeAnd (S.rest input.old) (λ script. 16777216 < length script) → IsCutShort result.status }
+    ensures too_long { result.status ≡ Status.TooLong → IfSome (S.rest input.old) (λ script. SCRIPT_BYTES < length script) }
+    ensures long { IsSomeAnd (S.rest input.old) (λ script. SCRIPT_BYTES < length script) → IsCutShort result.status }
 {
     let mut buffers = match Buffers::new(alloc) {
         Ok(buffers) => buffers,
@@ -73,8 +79,8 @@ fn image<D: Pm, S: Source, O: Sink>(alloc: Global, dev: D, input: &mut S, out: &
     ensures refused { (rule : ℕ) → IsFirst (D.words dev) rule → IsRefusal rule result.status }
     ensures later { D.faults dev ≤ D.faults result.dev }
     ensures causes { HasCauses result.status (D.faults dev) (D.faults result.dev) (S.faults input.old) (S.faults input.new) (O.faults out.old) (O.faults out.new) }
-    ensures too_long { result.status ≡ Status.TooLong → IfSome (S.rest input.old) (λ script. 16777216 < length script) }
-    ensures long { IsSomeAnd (S.rest input.old) (λ script. 16777216 < length script) → IsCutShort result.status }
+    ensures too_long { result.status ≡ Status.TooLong → IfSome (S.rest input.old) (λ script. SCRIPT_BYTES < length script) }
+    ensures long { IsSomeAnd (S.rest input.old) (λ script. SCRIPT_BYTES < length script) → IsCutShort result.status }
 {
     let mut buffers = match Buffers::new(alloc) {
         Ok(buffers) => buffers,
@@ -93,8 +99,8 @@ fn image<D: Pm, S: Source, O: Sink>(alloc: Global, dev: D, input: &mut S, out: &
 
 /// Makes a file system with so many inodes of the device.
 fn make<D: Pm>(alloc: Global, dev: D, inodes: u64) -> Outcome<D>
-    requires two { 2 ≤ inodes }
-    requires few { inodes ≤ 1048576 }
+    requires two { LEAST_INODES ≤ inodes }
+    requires few { inodes ≤ MOST_INODES }
     requires settled { NothingPending (D.told dev) }
     ensures usage { result.status ≢ Status.Usage }
     ensures ends { IsServed result.status → EndsFormat inodes (D.page_count dev) result.status
@@ -114,11 +120,50 @@ fn make<D: Pm>(alloc: Global, dev: D, inodes: u64) -> Outcome<D>
     }
 }
 
+/// Makes a file system of the device, makes the calls of a number over it, and writes what they come to.
+fn workload<D: Pm, O: Sink>(
+    alloc: Global,
+    dev: D,
+    number: u64,
+    count: u64,
+    out: &mut O,
+) -> Outcome<D>
+    requires few { count ≤ MOST_DRAWS }
+    requires settled { NothingPending (D.told dev) }
+    ensures usage { result.status ≢ Status.Usage }
+    ensures ends { IsServed result.status → EndsGen number count result.status (D.page_count dev) out.old out.new
+        (O.written out.old) (O.written out.new)
+        (moment (D.told dev) (D.words dev)) (moment (D.told result.dev) (D.words result.dev)) }
+    ensures unbegun { IsUnbegun result.status → (result.dev ≡ dev) × (out.new ≡ out.old) }
+    ensures not_image { (rule : ℕ) → result.status ≡ Status.NotImage rule → (rule ≡ 0) × IsMissized (D.page_count dev) }
+    ensures refused { (rule : ℕ) → (rule ≡ 0) × IsMissized (D.page_count dev) → IsRefusal rule result.status }
+    ensures later { D.faults dev ≤ D.faults result.dev }
+    ensures device_fault { result.status ≡ Status.DeviceFault → Rose (D.faults dev) (D.faults result.dev) }
+    ensures write_fault { result.status ≡ Status.WriteFault → Rose (O.faults out.old) (O.faults out.new) }
+{
+    let mut page = match Page::new(alloc) {
+        Ok(page) => page,
+        Err(_) => {
+            return Outcome {
+                status: Status::NoMemory,
+                dev,
+            };
+        }
+    };
+    match format(alloc, dev, INODES) {
+        Ok(fs) => work_on(fs, number, count, &mut page, out),
+        Err(no_mount) => refused(no_mount),
+    }
+}
+
 /// Runs the words, with the input and the output that they may use.
 ///
 /// `mem` makes a file system with 1,024 inodes of all pages of the device, and `run IMAGE` mounts the one that the device
 /// holds; both serve the script of the input over it. `format IMAGE INODES` makes a file system with so many inodes, and reads
-/// and writes nothing. The device that is handed back holds the tree that the calls left, where the status is `Done`.
+/// and writes nothing. `gen NUMBER COUNT` makes one as `mem` does, makes the calls of a number over it, with `COUNT` draws, at
+/// most 1,000,000, reads nothing, and writes one line of what they come to. `dump IMAGE` mounts the one that the device holds,
+/// reads nothing, and writes the script that makes its tree. The device that is handed back holds the tree that the calls left,
+/// where the status is `Done`.
 pub fn run<D: Pm, S: Source, O: Sink>(
     alloc: Global,
     words: &[String],
@@ -165,8 +210,26 @@ pub fn run<D: Pm, S: Source, O: Sink>(
         → IsUnused input.old input.new out.old out.new × EndsFormat inodes (D.page_count dev) result.status
         (moment (D.told dev) (D.words dev)) (moment (D.told result.dev) (D.words result.dev)) }
 
-    // No item was served: nothing was written.
-    ensures unwritten { IsUnserved result.status → out.new ≡ out.old }
+    // A file system was made as for mem, and from some moment on the calls of the number were made over it, with a moment for each,
+    // as the items of a script are. Where the run is done, what was written tells what the replies and the tree come to that the
+    // device holds; where the output failed, a part of that. Where the device failed, at most one call more was begun, and
+    // nothing was written. The input is not read, however the run ends.
+    ensures work { (number count : ℕ) → command_of (map (λ w. string_bytes w) words.now) ≡ Some (Command.Gen number count) → IsServed result.status
+        → EndsGen number count result.status (D.page_count dev) out.old out.new (O.written out.old) (O.written out.new)
+        (moment (D.told dev) (D.words dev)) (moment (D.told result.dev) (D.words result.dev)) }
+    ensures work_unread { (number count : ℕ) → command_of (map (λ w. string_bytes w) words.now) ≡ Some (Command.Gen number count)
+        → input.new ≡ input.old }
+
+    // The tree of an image was written as the script that makes it: of an image that lands on one, with no step once it was
+    // mounted; where a path is too long for a call, the lines before the first node that has one; and a prefix of all this where
+    // the output failed. Nothing was read.
+    ensures dump { command_of (map (λ w. string_bytes w) words.now) ≡ Some Command.Dump → (input.new ≡ input.old)
+        × (IsServed result.status → (t : Tree) → IsTree t → Lands (D.words dev) t
+        → EndsDump (inode_count (D.words dev)) t result.status out.old out.new (O.written out.old) (O.written out.new)
+        (moment (D.told dev) (D.words dev)) (moment (D.told result.dev) (D.words result.dev))) }
+
+    // No item of a script was served: nothing was written.
+    ensures unwritten { TakesScript (command_of (map (λ w. string_bytes w) words.now)) → IsUnserved result.status → out.new ≡ out.old }
 
     // The first mount rule that fails, or that on the device's size where it is to be formatted; exactly, where memory did not run
     // out before, nor the device fail in the midst of a mount.
@@ -178,23 +241,26 @@ pub fn run<D: Pm, S: Source, O: Sink>(
     // A fault is answered only where that one failed.
     ensures causes { HasCauses result.status (D.faults dev) (D.faults result.dev) (S.faults input.old) (S.faults input.new) (O.faults out.old) (O.faults out.new) }
 
-    // More than 16777216 bytes came, exactly, where nothing ended the run before.
-    ensures too_long { result.status ≡ Status.TooLong → IfSome (S.rest input.old) (λ script. 16777216 < length script) }
+    // More bytes came than a script may have, exactly, where nothing ended the run before; or a path of the tree that is dumped is
+    // too long for a call.
+    ensures too_long { result.status ≡ Status.TooLong → WasTooLong (command_of (map (λ w. string_bytes w) words.now)) (S.rest input.old) (D.words dev) }
     ensures long { TakesScript (command_of (map (λ w. string_bytes w) words.now))
-        → IsSomeAnd (S.rest input.old) (λ script. 16777216 < length script) → IsCutShort result.status }
+        → IsSomeAnd (S.rest input.old) (λ script. SCRIPT_BYTES < length script) → IsCutShort result.status }
 
-    // With a device that is an image for the command, no fault, and no more bytes than that, it is done.
+    // With a device that is an image for the command, no fault, no more bytes than that and no path that is too long, it is done.
     ensures complete { IsSome (command_of (map (λ w. string_bytes w) words.now))
         → ((rule : ℕ) → IsNoImage (command_of (map (λ w. string_bytes w) words.now)) (D.page_count dev) (D.words dev) rule → ⊥)
         → (Rose (D.faults dev) (D.faults result.dev) → ⊥)
         → (Rose (S.faults input.old) (S.faults input.new) → ⊥) → (Rose (O.faults out.old) (O.faults out.new) → ⊥)
-        → (TakesScript (command_of (map (λ w. string_bytes w) words.now)) → IsSomeAnd (S.rest input.old) (λ script. length script ≤ 16777216))
+        → IsShortEnough (command_of (map (λ w. string_bytes w) words.now)) (S.rest input.old) (D.words dev)
         → IsDoneOrNoMemory result.status }
 {
     match command_of(words) {
         Some(Command::Mem) => mem(alloc, dev, input, out),
         Some(Command::Run) => image(alloc, dev, input, out),
         Some(Command::Format { inodes }) => make(alloc, dev, inodes),
+        Some(Command::Gen { number, count }) => workload(alloc, dev, number, count, out),
+        Some(Command::Dump) => dump(alloc, dev, out),
         None => Outcome {
             status: Status::Usage,
             dev,

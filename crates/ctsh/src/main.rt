@@ -18,6 +18,8 @@ const HELP: &str = "\
 usage: ctsh mem
        ctsh format IMAGE INODES
        ctsh run IMAGE
+       ctsh dump IMAGE
+       ctsh gen NUMBER COUNT
        ctsh --help | --version
 
 mem     makes a file system in memory, runs the script of standard input over it,
@@ -30,6 +32,12 @@ format  makes an empty file system of all whole 4096-byte pages of a file that i
 run     mounts the file system in a file, and runs the script as mem does; a call
         that a crash cut off is done whole or not at all
           ctsh run disk.img < first.ctsh
+dump    mounts the file system in a file as run does, and writes the script that
+        makes its files and directories on an empty one; reads no script
+          ctsh dump disk.img > again.ctsh; ctsh mem < again.ctsh
+gen     makes a file system in memory as mem does, and 16 files; makes COUNT calls
+        over it that a number gives, at most 1000000, and writes what they came to
+          ctsh gen 7 10000
 
 Lines of a script:
   create PATH   makes an empty file
@@ -95,12 +103,16 @@ fn tell(rt: &HostRuntime, text: &str) -> Status {
     }
 }
 
+/// Whether a command works over the file that the next word names. A mount settles what a crash left, so to dump an image
+/// writes to it too.
+fn takes_image(command: &str) -> bool {
+    command == "run" || command == "format" || command == "dump"
+}
+
 /// The file that the words name for a command.
 fn image_of(words: &[String]) -> Option<&str> {
     match words {
-        [word, image, ..] if word.as_str() == "run" || word.as_str() == "format" => {
-            Some(image.as_str())
-        }
+        [word, image, ..] if takes_image(word.as_str()) => Some(image.as_str()),
         _ => None,
     }
 }

@@ -13,6 +13,7 @@ use Rattle.ct_base.specs.Inode.{Partition, is_free, nth, free_from, free_parts}
 use Rattle.ct_base.specs.Settled.{Pair, with_pairs}
 use Rattle.ct_base.specs.View.{is_seen, view}
 use Rattle.ct_base.specs.Walk.{byte}
+use Rattle.ct_base.specs.declared.layout.TheConstants.{ROOT_WORD, STAGING_SLOT}
 use Rattle.ct_frames.specs.Agrees.{Agrees}
 use Rattle.ct_words.specs.Shown.{shown_word}
 use Rattle.ct_record.proofs.Under.{under_beside}
@@ -193,6 +194,10 @@ blank e = record { some = e.some; there = e.there; root = λ i lt. e.zeros (33 *
 
 pub empty_tables : {img : List ℕ} → IsEmpty img → AreTables img
 empty_tables e = blank_tables (blank e)
+
+-- nothing is staged
+pub empty_staging : {img : List ℕ} → IsEmpty img → word img (ROOT_WORD + STAGING_SLOT) ≡ 0
+empty_staging e = e.zeros (ROOT_WORD + STAGING_SLOT) (λ is. omega (arith, is))
 
 -- nothing is to be seen, and pages that are made show nothing
 pub view_zero : (old new : List ℕ) → IsEmpty old → ((v : ℕ) → v < 281474976710656 → byte new v ≡ byte old v) → (v : ℕ) → view new v ≡ 0

@@ -1,4 +1,4 @@
-ghost use Rattle.std.specs.Prelude.{◌≡◌, ◌*◌, ◌<◌, OnOk, OnErr, length, slice_set};
+ghost use Rattle.std.specs.Prelude.{◌≡◌, ◌<◌, OnOk, OnErr, length, slice_set};
 ghost use Rattle.ct_base.specs.Causes.{HasCause};
 ghost use Rattle.ct_pm.specs.declared.step.Step.TheVariants.{Store, Flush, Fence};
 ghost use Rattle.ct_pm.specs.Device.{AddsStep};
@@ -6,11 +6,14 @@ ghost use Rattle.ct_pm.specs.Device.{AddsStep};
 use ct_pm::{Pm, PmFault};
 use std::cell::Cell;
 
-/// A device that counts its loads.
+/// A device that counts its calls.
 #[derive(Drop)]
 pub struct CountingPm<D> {
     pub dev: D,
     loads: Cell<u64>,
+    pub stores: u64,
+    pub flushes: u64,
+    pub fences: u64,
 }
 
 impl<D: Pm> CountingPm<D> {
@@ -20,6 +23,9 @@ impl<D: Pm> CountingPm<D> {
         CountingPm {
             dev,
             loads: Cell::new(0),
+            stores: 0,
+            flushes: 0,
+            fences: 0,
         }
     }
 
@@ -56,14 +62,17 @@ impl<D: Pm> Pm for CountingPm<D> {
     }
 
     fn store(&mut self, word: u64, value: u64) -> Result<(), PmFault> {
+        self.stores = self.stores.saturating_add(1);
         self.dev.store(word, value)
     }
 
     fn flush(&mut self, line: u64) -> Result<(), PmFault> {
+        self.flushes = self.flushes.saturating_add(1);
         self.dev.flush(line)
     }
 
     fn fence(&mut self) -> Result<(), PmFault> {
+        self.fences = self.fences.saturating_add(1);
         self.dev.fence()
     }
 }

@@ -1,10 +1,13 @@
-//! The allocator on a device: pages are made for header words, and partitions are taken and released by records.
+//! The allocator on a device: pages are made for header words, and partitions are taken and released by records,
+//! and pages are staged.
 //!
 //! All of it is compiled for tests alone, so it is proved once.
 #![tactic(auto)]
 
 #[cfg(test)]
 mod counting;
+#[cfg(test)]
+mod staging;
 #[cfg(test)]
 mod tests;
 #[cfg(test)]

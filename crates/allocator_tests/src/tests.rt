@@ -3,17 +3,17 @@ ghost use Rattle.std.specs.Prelude.{◌≤◌};
 use crate::volume::{
     empty, ensure_page, first_base, format, read, release_at, take_around, take_first,
 };
-use ct_base::Vaddr;
+use ct_base::{SLOT_SPAN, TOP_LEVEL, Vaddr};
 use ct_walk::{Want, missing};
 use std::test::Fail;
 
 // Where the headers begin: root slot 1.
-const HEADERS: u64 = 1 << 39;
+const HEADERS: u64 = SLOT_SPAN;
 
 // The address of the header word of the first range of root slot 10.
 fn header_of(level: u32) -> u64
     requires low { 2 ≤ level }
-    requires high { level ≤ 9 }
+    requires high { level ≤ TOP_LEVEL }
 {
     let number = (10 << 27) >> (3 * level);
     HEADERS + (1 << 36) + (level as u64 - 2) * (1 << 33) + 8 * number

@@ -1,4 +1,4 @@
-ghost use Rattle.std.specs.Prelude.{◌≡◌, ◌≢◌, ℕ, ◌+◌, ◌*◌, ◌/◌, ◌%◌, ◌^◌, ◌<◌, ◌≤◌, ◌∷◌, [], List, IfOk, IfSome, OnOk, true, length, Contains};
+ghost use Rattle.std.specs.Prelude.{◌≡◌, ◌≢◌, ℕ, ◌+◌, ◌/◌, ◌%◌, ◌<◌, ◌≤◌, ◌∷◌, [], List, IfOk, IfSome, OnOk, true, length, Contains};
 ghost use Rattle.ct_base.specs.Headers.{StandFor, is_one};
 ghost use Rattle.ct_base.specs.Inode.{Partition, IsPart, is_free};
 ghost use Rattle.ct_base.specs.Settled.{IsShut};
@@ -16,7 +16,9 @@ ghost use Rattle.ct_record.specs.Seen.{count_of};
 ghost use Rattle.allocator_tests.specs.Ready.{HasLive, HasPages, IsApplied, IsEmpty, IsReady};
 
 use crate::counting::CountingPm;
-use ct_base::{NoMemory, Vaddr};
+use ct_base::{
+    ADDRESS_END, FIRST_PAGE, MOST_PAGES, NoMemory, PAGE_BYTES, PAGE_WORDS, TOP_LEVEL, Vaddr,
+};
 use ct_frames::Frames;
 use ct_header::{HeaderWords, pick, release, take, words};
 use ct_level::AnyPart;
@@ -80,10 +82,10 @@ fn ensure_pages<D: Pm>(
 /// Stores the word at an address whose page is there.
 fn put_word<D: Pm>(dev: &mut D, address: u64, value: u64) -> Result<(), PmFault>
     requires tables { AreTables (D.words dev.old) }
-    requires high { address < 2 ^ 48 }
-    requires there { page_at (D.words dev.old) 4 (address / 4096) ≢ 0 }
+    requires high { address < ADDRESS_END }
+    requires there { page_at (D.words dev.old) 4 (address / PAGE_BYTES) ≢ 0 }
     requires settled { NothingPending (D.told dev.old) }
-    ensures words { OnOk result (Writes (D.words dev.old) (D.words dev.new) (address / 4096) (address % 4096 / 8) value) }
+    ensures words { OnOk result (Writes (D.words dev.old) (D.words dev.new) (address / PAGE_BYTES) (address % PAGE_BYTES / 8) value) }
     ensures settled { OnOk result (NothingPending (D.told dev.new)) }
 {
     let Some(v) = Vaddr::new(address) else {
@@ -92,7 +94,11 @@ fn put_word<D: Pm>(dev: &mut D, address: u64, value: u64) -> Result<(), PmFault>
     let Some(page) = walk(dev, v) else {
         return Err(PmFault);
     };
-    commit_word(dev, page.number() * 512 + address % 4096 / 8, value)?;
+    commit_word(
+        dev,
+        page.number() * PAGE_WORDS + address % PAGE_BYTES / 8,
+        value,
+    )?;
     Ok(())
 }
 
@@ -171,7 +177,7 @@ pub fn take_first<D: Pm + Drop>(
     frames: &mut Frames,
     level: u32,
 ) -> Result<(D, Vaddr), PmFault>
-    requires level { level ≤ 9 }
+    requires level { level ≤ TOP_LEVEL }
     requires ready { IsReady (D.words dev) frames.old }
     requires settled { NothingPending (D.told dev) }
     ensures ready { IfOk result (λ r. IsReady (D.words r.0) frames.new) }
@@ -194,7 +200,7 @@ fn take_many<D: Pm + Drop>(
     level: u32,
     count: u32,
 ) -> Result<D, PmFault>
-    requires level { level ≤ 9 }
+    requires level { level ≤ TOP_LEVEL }
     requires ready { IsReady (D.words dev) frames.old }
     requires settled { NothingPending (D.told dev) }
     ensures ready { IfOk result (λ d. IsReady (D.words d) frames.new) }
@@ -255,7 +261,7 @@ pub fn read<D: Pm>(dev: &D, address: u64) -> u64
 
 /// The base of the first free partition of a level, 0 where there is none.
 pub fn first_base<D: Pm>(dev: &D, level: u32) -> u64
-    requires level { level ≤ 9 }
+    requires level { level ≤ TOP_LEVEL }
     requires ready { (frames : FreePages) × IsReady (D.words dev.now) frames }
 {
     match pick(dev, level) {
@@ -266,8 +272,8 @@ pub fn first_base<D: Pm>(dev: &D, level: u32) -> u64
 
 /// A device of zeros with so many pages, and its free pages.
 pub fn empty(alloc: Global, pages: u64) -> Result<(CountingPm<RamPm>, Frames), NoMemory>
-    requires least { 34 ≤ pages }
-    requires most { pages ≤ 262144 }
+    requires least { FIRST_PAGE ≤ pages }
+    requires most { pages ≤ MOST_PAGES }
     ensures empty { IfOk result (λ made. IsEmpty (words_of made.0.dev)) }
     ensures agrees { IfOk result (λ made. Agrees (words_of made.0.dev) made.1) }
 {

@@ -1,6 +1,7 @@
 ghost use Rattle.ct_base.specs.Head.{HasHead};
 
 use crate::volume::image;
+use ct_base::{PARTITION_SLOT, ROOT_WORD, STAGING_SLOT};
 use ct_check::{CheckFault, check, check_head};
 use ct_marks::are_zero;
 use ct_pm::Pm;
@@ -10,7 +11,7 @@ use std::alloc::Global;
 fn free_pages<D: Pm>(alloc: Global, dev: &D) -> Result<u64, CheckFault>
     requires head { HasHead (D.words dev.now) }
 {
-    if !are_zero(dev, 16898, 16906) {
+    if !are_zero(dev, ROOT_WORD + STAGING_SLOT, ROOT_WORD + PARTITION_SLOT) {
         return Err(CheckFault::Memory);
     }
     match check(alloc, dev) {
@@ -19,9 +20,9 @@ fn free_pages<D: Pm>(alloc: Global, dev: &D) -> Result<u64, CheckFault>
     }
 }
 
-/// The number of free pages in the image with these words set anew, or the first rule that fails.
-pub fn answer(alloc: Global, changes: &[(u64, u64)]) -> Result<u64, CheckFault> {
-    let dev = match image(alloc, changes) {
+/// The number of free pages in the image with these words set anew, one list after the other, or the first rule that fails.
+pub fn answer(alloc: Global, first: &[(u64, u64)], then: &[(u64, u64)]) -> Result<u64, CheckFault> {
+    let dev = match image(alloc, first, then) {
         Some(dev) => dev,
         None => return Err(CheckFault::Memory),
     };

@@ -2,9 +2,11 @@
 #![tactic(auto)]
 
 mod answers;
+mod rows;
 #[cfg(test)]
 mod tests;
 mod volume;
 
 pub use answers::answer;
-pub use volume::{image, set};
+pub use rows::{EMPTY, ROWS, TWO_FILES};
+pub use volume::image;

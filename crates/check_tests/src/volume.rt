@@ -1,9 +1,10 @@
+use ct_base::PAGE_WORDS;
 use ct_pm::{Pm, RamPm};
 use std::alloc::Global;
 
-/// Sets a word, where there is one.
-pub fn set(dev: &mut RamPm, word: u64, value: u64) {
-    if word < 512 * dev.pages() {
+// Sets a word, where there is one.
+fn set(dev: &mut RamPm, word: u64, value: u64) {
+    if word < PAGE_WORDS * dev.pages() {
         let _ = dev.store(word, value);
     }
 }
@@ -28,14 +29,18 @@ const FORMATTED: [(u64, u64); 16] = [
     (20993, 0x3030),
 ];
 
-/// That image with these words set anew; `None` where there is no memory for it.
-pub fn image(alloc: Global, changes: &[(u64, u64)]) -> Option<RamPm> {
+// Sets each of the words.
+fn set_all(dev: &mut RamPm, words: &[(u64, u64)]) {
+    for (word, value) in words {
+        set(dev, *word, *value);
+    }
+}
+
+/// That image with these words set anew, one list after the other; `None` where there is no memory for it.
+pub fn image(alloc: Global, first: &[(u64, u64)], then: &[(u64, u64)]) -> Option<RamPm> {
     let mut dev = RamPm::new(alloc, 256).ok()?;
-    for (word, value) in FORMATTED {
-        set(&mut dev, word, value);
-    }
-    for (word, value) in changes {
-        set(&mut dev, *word, *value);
-    }
+    set_all(&mut dev, &FORMATTED);
+    set_all(&mut dev, first);
+    set_all(&mut dev, then);
     Some(dev)
 }

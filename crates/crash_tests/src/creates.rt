@@ -4,8 +4,9 @@ ghost use Rattle.ct_pm.specs.Images.{IsSettled};
 ghost use Rattle.pm_trace.specs.Meaning.{history};
 
 use crate::images::{Gate, Look, Outcome, check_images};
-use create_stops::reader::{DIRECTORY, Entry, holds, is_free};
+use create_stops::reader::{Entry, holds, is_free};
 use create_stops::rest::PAGES;
+use ct_base::{DIRECTORY_KIND, ENTRY_BYTES};
 use ct_fs::{Fs, FsError, format};
 use ct_pm::Pm;
 use pm_fuse::FusePm;
@@ -145,8 +146,8 @@ fn directory(name: u8, inode: u64, slots: u8) -> Entry {
     Entry {
         name,
         inode,
-        kind: DIRECTORY,
-        size: 256 * slots as u64,
+        kind: DIRECTORY_KIND,
+        size: ENTRY_BYTES * slots as u64,
     }
 }
 

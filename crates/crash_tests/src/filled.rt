@@ -8,7 +8,7 @@ ghost use Rattle.ct_tree.specs.Tree.{Dir, Tree, none};
 
 use create_stops::reader::{inode_word, read_alike};
 use create_stops::rest::{PAGES, lowest_free};
-use ct_base::Vaddr;
+use ct_base::{ENTRY_BYTES, INODE_BYTES, LEAST_INODES, MOST_INODES, MOST_PAGES, SLOT_SPAN, Vaddr};
 use ct_fs::{Fs, FsError, Stat, format};
 use ct_pm::RamPm;
 use ct_tree::Refusal;
@@ -18,9 +18,9 @@ use std::test::Fail;
 
 // A new file system, where there is memory.
 fn new_fs(alloc: Global, pages: u64, inodes: u64) -> Option<Fs<RamPm>>
-    requires pages { pages ≤ 262144 }
-    requires two { 2 ≤ inodes }
-    requires few { inodes ≤ 1048576 }
+    requires pages { pages ≤ MOST_PAGES }
+    requires two { LEAST_INODES ≤ inodes }
+    requires few { inodes ≤ MOST_INODES }
     ensures { IfSome result (λ fs. IsSomeAnd (mounts fs) (λ now. StandsFor (words_of now.dev) (Dir none))) }
 {
     let dev = RamPm::new(alloc, pages).ok()?;
@@ -40,7 +40,7 @@ fn the_root_grows_for_its_17th_entry(rt: HostRuntime) {
     }
     assert_eq!(rt; fs.stat(b"/"), Ok(Stat::Dir { count: 17 }));
     let dev = fs.unmount();
-    assert_eq!(rt; inode_word(&dev, 1, 1), 17 * 256);
+    assert_eq!(rt; inode_word(&dev, 1, 1), 17 * ENTRY_BYTES);
     assert_eq!(rt; inode_word(&dev, 1, 2), 5_497_558_171_648);
     assert_eq!(rt; inode_word(&dev, 1, 3), 1);
 }
@@ -141,7 +141,7 @@ fn slot_11_is_the_lowest_free_one(rt: HostRuntime) {
     assert_eq!(rt; peek_word(&fs, LEVEL_9 + 8), Some(0x29_3030));
     let _dev = fs.unmount();
     let dev = with_file(alloc).expect(&rt, "a device");
-    assert_eq!(rt; lowest_free(dev, 9), Some(11 * 549_755_813_888));
+    assert_eq!(rt; lowest_free(dev, 9), Some(11 * SLOT_SPAN));
 }
 
 // The steps of a format.
@@ -152,7 +152,7 @@ const FORMAT_STEPS: u64 = 5770;
 fn a_mount_is_dead_after_a_fault(rt: HostRuntime) -> Result<(), Fail> {
     let alloc = rt.alloc();
     let dev = FusePm::new(RamPm::new(alloc, 256)?, FORMAT_STEPS + 10);
-    let kind = Vaddr::new(64).ok_or("an address")?;
+    let kind = Vaddr::new(INODE_BYTES).ok_or("an address")?;
     let mut fs = format(alloc, dev, 16).ok().expect(&rt, "a new file system");
     assert_eq!(rt; fs.create(b"/a"), Err(FsError::Fault));
     assert_eq!(rt; fs.stat(b"/a"), Err(FsError::Dead));

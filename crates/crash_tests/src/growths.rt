@@ -4,7 +4,12 @@ ghost use Rattle.pm_fuse.specs.Fuse.{inner};
 ghost use Rattle.pm_trace.specs.Meaning.{history};
 
 use crate::images::{Gate, Look, Outcome, check_images};
+use create_stops::reader::{SECOND_SPAN, THIRD_SPAN};
 use create_stops::rest::PAGES;
+use ct_base::{
+    INODE_BYTES, LONG_GATE, PAGE_BYTES, PAGE_WORDS, ROOT_PAGE, ROOT_WORD, SLOT_SPAN, TABLE_ENTRIES,
+    TOP_LEVEL,
+};
 use ct_pm::{Pm, Step};
 use growth_stops::{Growth, Start, Stopping, made};
 use pm_fuse::FusePm;
@@ -62,7 +67,9 @@ fn next(alloc: Global, start: &Start, level: u32) -> Result<Start, Fail> {
         return Err(Fail::from("growth"));
     };
     for offset in offsets(alloc, level)? {
-        grown = grown.filled(offset.saturating_mul(4096)).ok_or("a page")?;
+        grown = grown
+            .filled(offset.saturating_mul(PAGE_BYTES))
+            .ok_or("a page")?;
     }
     Ok(Start::of(grown).ok_or("a start")?)
 }
@@ -88,10 +95,10 @@ fn run(alloc: Global, start: &Start, level: u32, passes: u64) -> Result<(TracePm
 
 // A word of a page, 0 where there is none.
 fn word_in(words: &[u64], page: u64, index: u64) -> u64 {
-    if page == 0 || page >= PAGES || index >= 512 {
+    if page == 0 || page >= PAGES || index >= PAGE_WORDS {
         return 0;
     }
-    let word = page * 512 + index;
+    let word = page * PAGE_WORDS + index;
     if word < words.len() as u64 {
         words[word as usize]
     } else {
@@ -102,25 +109,25 @@ fn word_in(words: &[u64], page: u64, index: u64) -> u64 {
 // The index of an address in the table that so many index steps reach.
 fn index_of(address: u64, steps: u32) -> u64 {
     match steps {
-        0 => address / 549_755_813_888 % 512,
-        1 => address / 1_073_741_824 % 512,
-        2 => address / 2_097_152 % 512,
-        _ => address / 4096 % 512,
+        0 => address / SLOT_SPAN % TABLE_ENTRIES,
+        1 => address / THIRD_SPAN % TABLE_ENTRIES,
+        2 => address / SECOND_SPAN % TABLE_ENTRIES,
+        _ => address / PAGE_BYTES % TABLE_ENTRIES,
     }
 }
 
 // The page after so many index steps on the way to an address, 0 where there is none.
 fn step_to(words: &[u64], address: u64, steps: u32) -> u64 {
-    let mut page = 33;
+    let mut page = ROOT_PAGE;
     for step in 0..steps {
-        page = word_in(words, page, index_of(address, step)) / 4096;
+        page = word_in(words, page, index_of(address, step)) / PAGE_BYTES;
     }
     page
 }
 
 // Word k of inode 1.
 fn inode_word(words: &[u64], k: u64) -> u64 {
-    word_in(words, step_to(words, 64, 4), 8 + k % 8)
+    word_in(words, step_to(words, INODE_BYTES, 4), 8 + k % 8)
 }
 
 // What is seen of the root directory: its inode, and the page and the words of each of these addresses.
@@ -146,13 +153,13 @@ fn seen(alloc: Global, words: &[u64], addresses: &[u64]) -> Result<Vec<u64>, Fai
 fn addresses(alloc: Global, old: &[u64], new: &[u64]) -> Result<Vec<u64>, Fail> {
     let mut addresses = Vec::new(alloc);
     let level = inode_word(old, 3);
-    if level > 9 {
+    if level > TOP_LEVEL {
         addresses.push(inode_word(new, 2))?;
         return Ok(addresses);
     }
     for base in [inode_word(old, 2), inode_word(new, 2)] {
         for offset in offsets(alloc, level as u32)? {
-            addresses.push(base.saturating_add(offset.saturating_mul(4096)))?;
+            addresses.push(base.saturating_add(offset.saturating_mul(PAGE_BYTES)))?;
         }
     }
     Ok(addresses)
@@ -178,10 +185,10 @@ fn calls_of(dev: &TracePm) -> Calls {
     for i in 0..dev.clock() {
         match dev.step_at(i) {
             Step::Store { word, value } => {
-                if word >= 512 && word < 16896 {
+                if word >= LONG_GATE && word < ROOT_WORD {
                     calls.pages = calls.pages.min(i);
                 }
-                if word == 512 && value != 0 {
+                if word == LONG_GATE && value != 0 {
                     calls.stored = i + 1;
                 }
             }
@@ -209,7 +216,7 @@ fn exchanged(dev: &TracePm, old: &[u64], new: &[u64]) -> u64 {
     let mut exchanged = 0u64;
     for i in calls_of(dev).fenced..dev.clock() {
         if let Step::Store { word, value: _ } = dev.step_at(i)
-            && is_table(new, bases, word / 512)
+            && is_table(new, bases, word / PAGE_WORDS)
         {
             exchanged = exchanged.saturating_add(1);
         }
@@ -285,12 +292,12 @@ fn stop_growth(rt: &impl Abort, alloc: Global, level: u32) -> Result<(), Fail> {
 // Whether each page of the old partition is at its offset in the new one, with its words, and at the old one no more.
 fn has_moved(alloc: Global, old: &[u64], new: &[u64]) -> Result<bool, Fail> {
     let level = inode_word(old, 3);
-    if level > 9 {
+    if level > TOP_LEVEL {
         return Ok(true);
     }
     for offset in offsets(alloc, level as u32)? {
-        let from = inode_word(old, 2).saturating_add(offset.saturating_mul(4096));
-        let to = inode_word(new, 2).saturating_add(offset.saturating_mul(4096));
+        let from = inode_word(old, 2).saturating_add(offset.saturating_mul(PAGE_BYTES));
+        let to = inode_word(new, 2).saturating_add(offset.saturating_mul(PAGE_BYTES));
         let page = step_to(old, from, 4);
         if page == 0 || step_to(new, to, 4) != page || step_to(new, from, 4) != 0 {
             return Ok(false);

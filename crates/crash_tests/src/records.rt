@@ -3,6 +3,7 @@ ghost use Rattle.ct_pm.specs.Images.{IsSettled};
 ghost use Rattle.pm_trace.specs.Meaning.{history};
 
 use crate::images::{Gate, Look, Outcome, check_images};
+use ct_base::PAGE_WORDS;
 use pm_fuse::FusePm;
 use pm_trace::TracePm;
 use record_stops::{Steps, put_pairs, steps_since};
@@ -37,7 +38,7 @@ fn device(alloc: Global, fails: Vec<u64>) -> Result<TracePm, Fail>
     ensures { IfOk result (λ device. IsSettled (history device)) }
 {
     let mut words = Vec::new(alloc);
-    for word in 0..512 * PAGES {
+    for word in 0..PAGE_WORDS * PAGES {
         words.push(if word == 2 { PAGES } else { 0 })?;
     }
     Ok(TracePm::new(alloc, words, 100, fails)?)

@@ -1,17 +1,15 @@
 // What a reader of the image finds. It claims nothing, and takes any words: a wrong image must not lead it astray.
+use ct_base::{
+    DIRECTORY_KIND, ENTRY_BYTES, ENTRY_WORDS, INODE_BYTES, MOST_PAGES, PAGE_BYTES, PAGE_WORDS,
+    ROOT_PAGE, SLOT_SPAN, TABLE_ENTRIES,
+};
 use ct_pm::Pm;
 
-/// The page of the root table.
-const ROOT_TABLE: u64 = 33;
+/// The addresses that an entry of a table of level 3 leads to, in bytes.
+pub const THIRD_SPAN: u64 = SLOT_SPAN / TABLE_ENTRIES;
 
-/// The kind of a directory.
-pub const DIRECTORY: u64 = 2;
-
-/// The bytes of a slot of a directory.
-const SLOT_BYTES: u64 = 256;
-
-/// The bytes of an inode.
-const INODE_BYTES: u64 = 64;
+/// Those that an entry of a table of level 2 leads to.
+pub const SECOND_SPAN: u64 = THIRD_SPAN / TABLE_ENTRIES;
 
 /// An entry whose name has one byte, and what it leads to.
 #[derive(Clone, Copy, Debug, PartialEq, Eq)]
@@ -24,7 +22,7 @@ pub struct Entry {
 
 /// A word of the device, 0 past its end.
 pub fn word<D: Pm>(dev: &D, at: u64) -> u64 {
-    if at / 512 < dev.pages() {
+    if at / PAGE_WORDS < dev.pages() {
         dev.load(at)
     } else {
         0
@@ -33,9 +31,12 @@ pub fn word<D: Pm>(dev: &D, at: u64) -> u64 {
 
 // The page that an entry of a table names.
 fn step<D: Pm>(dev: &D, table: u64, index: u64) -> Option<u64> {
-    let entry = word(dev, table.saturating_mul(512).saturating_add(index));
-    if entry % 4096 == 1 {
-        Some(entry / 4096)
+    let entry = word(
+        dev,
+        table.saturating_mul(TABLE_ENTRIES).saturating_add(index),
+    );
+    if entry % PAGE_BYTES == 1 {
+        Some(entry / PAGE_BYTES)
     } else {
         None
     }
@@ -43,10 +44,10 @@ fn step<D: Pm>(dev: &D, table: u64, index: u64) -> Option<u64> {
 
 // The page at an address, by four index steps.
 fn page_at<D: Pm>(dev: &D, address: u64) -> Option<u64> {
-    let third = step(dev, ROOT_TABLE, address / 549_755_813_888 % 512)?;
-    let second = step(dev, third, address / 1_073_741_824 % 512)?;
-    let first = step(dev, second, address / 2_097_152 % 512)?;
-    step(dev, first, address / 4096 % 512)
+    let third = step(dev, ROOT_PAGE, address / SLOT_SPAN % TABLE_ENTRIES)?;
+    let second = step(dev, third, address / THIRD_SPAN % TABLE_ENTRIES)?;
+    let first = step(dev, second, address / SECOND_SPAN % TABLE_ENTRIES)?;
+    step(dev, first, address / PAGE_BYTES % TABLE_ENTRIES)
 }
 
 /// The word at an address, 0 where no page is there.
@@ -54,7 +55,8 @@ pub fn word_at<D: Pm>(dev: &D, address: u64) -> u64 {
     match page_at(dev, address) {
         Some(page) => word(
             dev,
-            page.saturating_mul(512).saturating_add(address % 4096 / 8),
+            page.saturating_mul(PAGE_WORDS)
+                .saturating_add(address % PAGE_BYTES / 8),
         ),
         None => 0,
     }
@@ -86,7 +88,7 @@ fn has_entry<D: Pm>(dev: &D, slot: u64, entry: &Entry) -> bool {
     if word_at(dev, slot) != head || word_at(dev, slot.saturating_add(8)) != entry.name as u64 {
         return false;
     }
-    for k in 2..32 {
+    for k in 2..ENTRY_WORDS {
         if word_at(dev, slot.saturating_add(8 * k)) != 0 {
             return false;
         }
@@ -102,17 +104,17 @@ pub fn holds<D: Pm>(dev: &D, dir: u64, entries: &[Entry]) -> bool {
         if !has_entry(dev, base.saturating_add(offset), entry) {
             return false;
         }
-        offset = offset.saturating_add(SLOT_BYTES);
+        offset = offset.saturating_add(ENTRY_BYTES);
     }
-    inode_word(dev, dir, 0) == DIRECTORY && inode_word(dev, dir, 1) == offset
+    inode_word(dev, dir, 0) == DIRECTORY_KIND && inode_word(dev, dir, 1) == offset
 }
 
 /// Whether two devices read alike.
 pub fn read_alike<D: Pm>(one: &D, other: &D) -> bool {
-    if one.pages() != other.pages() || one.pages() > 262_144 {
+    if one.pages() != other.pages() || one.pages() > MOST_PAGES {
         return false;
     }
-    for at in 0..512 * one.pages() {
+    for at in 0..PAGE_WORDS * one.pages() {
         if word(one, at) != word(other, at) {
             return false;
         }

@@ -3,7 +3,7 @@ ghost use Rattle.std.specs.Prelude.{◌≡◌, ◌≤◌, IsTrue, IfSome};
 ghost use Rattle.growth_stops.specs.Starts.{AreAlike, IsStart, StartWords};
 
 use crate::volume::{PAGES, Resting};
-use ct_base::Page;
+use ct_base::{FIRST_PAGE, Page};
 use ct_frames::Frames;
 use ct_pm::Pm;
 use pm_fuse::FusePm;
@@ -31,12 +31,12 @@ impl Model for Start {
 
 // Frames of which those pages are taken that are taken in others.
 fn marked(alloc: Global, others: &Frames) -> Option<Frames>
-    ensures { IfSome result (λ frames. frames.pages ≡ 256) }
+    ensures { IfSome result (λ frames. frames.pages ≡ PAGES) }
 {
     let Ok(mut frames) = Frames::new(alloc, PAGES) else {
         return None;
     };
-    for number in 34..PAGES {
+    for number in FIRST_PAGE..PAGES {
         let page = Page::new(number);
         if frames.is_free(page) && !others.is_free(page) {
             frames.mark(page);
@@ -47,14 +47,14 @@ fn marked(alloc: Global, others: &Frames) -> Option<Frames>
 
 // Whether the same pages are free.
 fn are_alike(one: &Frames, other: &Frames) -> bool
-    requires one { one.now.pages ≡ 256 }
-    requires other { other.now.pages ≡ 256 }
+    requires one { one.now.pages ≡ PAGES }
+    requires other { other.now.pages ≡ PAGES }
     ensures { IsTrue result → AreAlike one.now.free other.now.free }
 {
     if one.free() != other.free() {
         return false;
     }
-    for number in 34..PAGES {
+    for number in FIRST_PAGE..PAGES {
         let page = Page::new(number);
         if one.is_free(page) != other.is_free(page) {
             return false;

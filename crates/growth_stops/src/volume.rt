@@ -1,5 +1,5 @@
 // A device at rest, whose root directory grows.
-ghost use Rattle.std.specs.Prelude.{◌≡◌, ◌≢◌, ◌-◌, ◌^◌, ◌<◌, ◌≤◌, [], ◌∷◌, length, IsTrue, IfOk, IfSome};
+ghost use Rattle.std.specs.Prelude.{◌≡◌, ◌≢◌, ◌-◌, ◌<◌, ◌≤◌, [], ◌∷◌, length, IsTrue, IfOk, IfSome};
 ghost use Rattle.ct_base.specs.Inode.{IsPart, free_parts, inode as inode_at, live_parts};
 ghost use Rattle.ct_base.specs.Plan.{growth_need, next_part, page_want};
 ghost use Rattle.ct_base.specs.View.{inode_count, view};
@@ -8,7 +8,10 @@ ghost use Rattle.ct_call.specs.Mounted.{AreOwned, IsAtRest, IsMounted, Volume};
 ghost use Rattle.ct_grow.specs.Grown.{CanGrow};
 ghost use Rattle.ct_pm.specs.Device.{NothingPending};
 
-use ct_base::{NoMemory, Page, Vaddr};
+use ct_base::{
+    ADDRESS_END, FIRST_PAGE, INODE_BYTES, LEAST_INODES, LEAST_PAGES, MOST_PAGES, NO_PARTITION,
+    NoMemory, Page, TOP_LEVEL, Vaddr,
+};
 use ct_frames::Frames;
 use ct_fs::format;
 use ct_grow::{growth_wants, promote};
@@ -22,7 +25,7 @@ use std::alloc::Global;
 use std::marker::Model;
 
 /// The pages of the device.
-pub const PAGES: u64 = 256;
+pub const PAGES: u64 = LEAST_PAGES;
 
 /// The inode of the root directory, which is the object that grows.
 const ROOT: u64 = 1;
@@ -30,8 +33,8 @@ const ROOT: u64 = 1;
 /// The inode of a first file.
 const FILE: u64 = 2;
 
-/// The level of an inode that has no partition.
-const NO_PART: u64 = 15;
+/// The first page that the image of an empty tree leaves free.
+const FREE_PAGE: u64 = 42;
 
 /// A device at rest, and the pages that are free on it.
 #[derive(Drop)]
@@ -63,12 +66,12 @@ pub enum Growth<D: Pm> {
 
 // The pages that the image of an empty tree leaves free.
 fn free_pages(alloc: Global, pages: u64) -> Result<Frames, NoMemory>
-    requires least { 256 ≤ pages }
-    requires most { pages ≤ 262144 }
-    ensures { IfOk result (λ frames. frames ≡ record { pages = pages; free = rising (pages - 42) 42 }) }
+    requires least { LEAST_PAGES ≤ pages }
+    requires most { pages ≤ MOST_PAGES }
+    ensures { IfOk result (λ frames. frames ≡ record { pages = pages; free = rising (pages - FREE_PAGE) FREE_PAGE }) }
 {
     let mut frames = Frames::new(alloc, pages)?;
-    for page in 34..42 {
+    for page in FIRST_PAGE..FREE_PAGE {
         frames.mark(Page::new(page));
     }
     Ok(frames)
@@ -84,7 +87,7 @@ pub fn made<D: Pm + Drop>(alloc: Global, dev: D) -> Option<Resting<D>>
     let Ok(frames) = free_pages(alloc, PAGES) else {
         return None;
     };
-    match format(alloc, dev, 2) {
+    match format(alloc, dev, LEAST_INODES) {
         Ok(fs) => Some(Resting {
             dev: fs.unmount(),
             frames,
@@ -97,7 +100,7 @@ pub fn made<D: Pm + Drop>(alloc: Global, dev: D) -> Option<Resting<D>>
 pub fn with_file<D: Pm + Drop>(alloc: Global, dev: D) -> Option<Resting<D>>
     requires { NothingPending (D.told dev) }
 {
-    let Ok(mut fs) = format(alloc, dev, 2) else {
+    let Ok(mut fs) = format(alloc, dev, LEAST_INODES) else {
         return None;
     };
     let created = fs.create(b"/a");
@@ -125,7 +128,7 @@ fn page_at(at: u64) -> Option<Want>
 // Where the partition begins that growth to a level takes, `None` where none is free.
 fn next_base<D: Pm>(dev: &D, level: u32) -> Option<Vaddr>
     requires rest { IsAtRest (D.words dev.now) }
-    requires level { level ≤ 9 }
+    requires level { level ≤ TOP_LEVEL }
     ensures some { IfSome result (λ base. free_parts (live_parts (view (D.words dev.now)) (inode_count (D.words dev.now))) level ≢ []) }
     ensures part { IfSome result (λ base. IsPart (record { base = base; level = level })) }
     ensures next { IfSome result (λ base. next_part (view (D.words dev.now)) (inode_count (D.words dev.now)) level ≡ record { base = base; level = level }) }
@@ -140,7 +143,7 @@ fn next_base<D: Pm>(dev: &D, level: u32) -> Option<Vaddr>
 fn can_grow<D: Pm>(dev: &D, frames: &Frames, number: u64, level: u32) -> bool
     requires rest { IsAtRest (D.words dev.now) }
     requires from { 1 ≤ number }
-    requires to { number ≤ 2 }
+    requires to { number ≤ FILE }
     ensures can { IsTrue result → CanGrow (D.words dev.now) number level }
     ensures room { IsTrue result → growth_need (D.words dev.now) (inode_at (view (D.words dev.now)) number) level ≤ length frames.now.free }
 {
@@ -148,7 +151,7 @@ fn can_grow<D: Pm>(dev: &D, frames: &Frames, number: u64, level: u32) -> bool
     if inode.kind == 0 || level > 9 {
         return false;
     }
-    if inode.level != NO_PART && inode.level >= level as u64 {
+    if inode.level != NO_PARTITION && inode.level >= level as u64 {
         return false;
     }
     let Some(base) = next_base(dev, level) else {
@@ -161,11 +164,11 @@ fn can_grow<D: Pm>(dev: &D, frames: &Frames, number: u64, level: u32) -> bool
 // Whether the page at an offset may be made in the partition of the root directory, and where it is.
 fn place_of<D: Pm>(dev: &D, offset: u64) -> Option<u64>
     requires { IsAtRest (D.words dev.now) }
-    ensures high { IfSome result (λ at. at < 2 ^ 48) }
-    ensures owned { IfSome result (λ at. AreOwned (D.words dev.now) (page_want at ∷ page_want 64 ∷ [])) }
+    ensures high { IfSome result (λ at. at < ADDRESS_END) }
+    ensures owned { IfSome result (λ at. AreOwned (D.words dev.now) (page_want at ∷ page_want INODE_BYTES ∷ [])) }
 {
     let inode = get(dev, ROOT);
-    if inode.kind == 0 || inode.level > 9 {
+    if inode.kind == 0 || inode.level > TOP_LEVEL {
         return None;
     }
     if offset >= length_of(inode.level as u32) {
@@ -190,7 +193,7 @@ impl<D: Pm + Drop> Resting<D> {
             mut frames,
         } = self;
         let at = place_of(&dev, offset)?;
-        let wants = [page_at(at)?, page_at(64)?];
+        let wants = [page_at(at)?, page_at(INODE_BYTES)?];
         if missing(&dev, &wants) > frames.free() {
             return None;
         }
@@ -213,7 +216,7 @@ impl<D: Pm + Drop> Resting<D> {
     // Lets an object grow to a level.
     fn grow_to(self, number: u64, level: u32) -> Growth<D>
         requires from { 1 ≤ number }
-        requires to { number ≤ 2 }
+        requires to { number ≤ FILE }
     {
         let Resting { dev, mut frames } = self;
         if !can_grow(&dev, &frames, number, level) {

@@ -8,14 +8,18 @@ use crate::writes::is_before_or_after;
 use ct_base::{MemSink, MemSource};
 use ct_fs::format;
 use ct_pm::{Pm, Step};
-use ct_run::{Outcome, Status, run};
+use ct_run::Status;
 use pm_trace::TracePm;
 use record_stops::{IMAGES, Image, choices};
+use script_runs::{Left, ran, ran_between};
 use std::alloc::Global;
 use std::process::Abort;
 use std::test::Fail;
 
-const SCRIPT: &str = "create /a\nwrite /a 0 41\nwrite /a 4095 4242\n";
+// The calls that are made before a rename.
+const WRITES: &str = "create /a\nwrite /a 0 41\nwrite /a 4095 4242\n";
+
+const SCRIPT: &str = "create /a\nwrite /a 0 41\nwrite /a 4095 4242\nrename /a /b\n";
 
 // The length of the line that says ok.
 const OK: u64 = 3;
@@ -32,31 +36,29 @@ fn formatted(alloc: Global, fail_at: Vec<u64>) -> Result<TracePm, Fail>
     Ok(dev.crash(alloc, &choice, fail_at)?)
 }
 
-// Runs the script over an image, with ends of which these calls fail.
-fn ran(
+// Runs a script over an image, with ends of which these calls fail.
+fn served(
     alloc: Global,
+    script: &str,
     dev: TracePm,
     reads: Vec<u64>,
     writes: Vec<u64>,
-) -> Result<(Outcome<TracePm>, u64), Fail>
+) -> Result<Left<TracePm>, Fail>
     requires { IsSettled (history dev) }
 {
-    let mut words = Vec::new(alloc);
-    words.push(String::from_str(alloc, "run")?)?;
-    words.push(String::from_str(alloc, "x")?)?;
-    let script = SCRIPT.as_bytes().to_vec(alloc)?;
-    let mut input = MemSource::new(script, 8, reads);
-    let mut out = MemSink::new(alloc, 1 << 16, writes)?;
-    let outcome = run(alloc, &words, dev, &mut input, &mut out);
-    Ok((outcome, out.bytes().len() as u64))
+    let script = script.as_bytes().to_vec(alloc)?;
+    let input = MemSource::new(script, 8, reads);
+    let out = MemSink::new(alloc, 1 << 16, writes)?;
+    Ok(ran_between(alloc, "run x", dev, input, out)?)
 }
 
 // Whether each image of what a run left holds the tree after the calls that were answered, or after one more.
-fn check_left(rt: &impl Abort, alloc: Global, dev: &TracePm, written: u64) -> Result<(), Fail> {
+fn check_left(rt: &impl Abort, alloc: Global, left: &Left<TracePm>) -> Result<(), Fail> {
+    let written = left.out.bytes().len() as u64;
     for image in IMAGES {
         let choice = choices(alloc, image, LINES)?;
         assert!(rt;
-            is_before_or_after(alloc, dev, &choice, written / OK)?,
+            is_before_or_after(alloc, &left.dev, &choice, written / OK)?,
             "{image:?} after {written} bytes"
         );
     }
@@ -77,14 +79,15 @@ fn fences(alloc: Global, dev: &TracePm, most: usize) -> Result<Vec<u64>, Fail> {
 #[test]
 fn each_fence_of_a_run_may_fail(rt: HostRuntime) -> Result<(), Fail> {
     let alloc = rt.alloc();
-    let none = (Vec::new(alloc), Vec::new(alloc));
-    let (whole, written) = ran(alloc, formatted(alloc, Vec::new(alloc))?, none.0, none.1)?;
-    assert_eq!(rt; (whole.status, written), (Status::Done, 9));
+    let dev = formatted(alloc, Vec::new(alloc))?;
+    let whole = ran(alloc, "run x", dev, SCRIPT.as_bytes())?;
+    assert_eq!(rt; whole.status, Status::Done);
+    assert_eq!(rt; whole.out.bytes(), b"ok\nok\nok\nok\n".as_slice());
     for at in fences(alloc, &whole.dev, 8)? {
         let dev = formatted(alloc, vec![in alloc; at; 1]?)?;
-        let (outcome, written) = ran(alloc, dev, Vec::new(alloc), Vec::new(alloc))?;
-        assert_eq!(rt; outcome.status, Status::DeviceFault, "call {at}");
-        check_left(&rt, alloc, &outcome.dev, written)?;
+        let done = ran(alloc, "run x", dev, SCRIPT.as_bytes())?;
+        assert_eq!(rt; done.status, Status::DeviceFault, "call {at}");
+        check_left(&rt, alloc, &done)?;
     }
     Ok(())
 }
@@ -93,18 +96,13 @@ fn each_fence_of_a_run_may_fail(rt: HostRuntime) -> Result<(), Fail> {
 fn each_read_and_each_write_of_a_run_may_fail(rt: HostRuntime) -> Result<(), Fail> {
     let alloc = rt.alloc();
     for call in 0..3u64 {
-        let dev = formatted(alloc, Vec::new(alloc))?;
-        let (outcome, written) = ran(alloc, dev, vec![in alloc; call; 1]?, Vec::new(alloc))?;
-        assert_eq!(rt;
-            (outcome.status, written),
-            (Status::ReadFault, 0),
-            "read {call}"
-        );
-        check_left(&rt, alloc, &outcome.dev, 0)?;
-        let dev = formatted(alloc, Vec::new(alloc))?;
-        let (outcome, written) = ran(alloc, dev, Vec::new(alloc), vec![in alloc; call; 1]?)?;
-        assert_eq!(rt; outcome.status, Status::WriteFault, "write {call}");
-        check_left(&rt, alloc, &outcome.dev, written)?;
+        for (reads, writes, want) in [(1, 0, Status::ReadFault), (0, 1, Status::WriteFault)] {
+            let dev = formatted(alloc, Vec::new(alloc))?;
+            let reads = vec![in alloc; call; reads]?;
+            let done = served(alloc, WRITES, dev, reads, vec![in alloc; call; writes]?)?;
+            assert_eq!(rt; done.status, want, "call {call}");
+            check_left(&rt, alloc, &done)?;
+        }
     }
     Ok(())
 }

@@ -3,7 +3,8 @@ ghost use Rattle.std.specs.Prelude.{◌≡◌, ◌<◌, ◌≤◌, IfOk, length}
 ghost use Rattle.ct_pm.specs.Images.{IsSettled};
 ghost use Rattle.pm_trace.specs.Meaning.{history};
 
-use create_stops::reader::{DIRECTORY, Entry, holds};
+use create_stops::reader::{Entry, holds};
+use ct_base::DIRECTORY_KIND;
 use ct_fs::{Fs, FsError, Why, format, mount};
 use ct_pm::{Pm, Step};
 use pm_fuse::FusePm;
@@ -87,7 +88,7 @@ fn directory(name: u8, inode: u64, slots: u8) -> Entry {
     Entry {
         name,
         inode,
-        kind: DIRECTORY,
+        kind: DIRECTORY_KIND,
         size: 256 * slots as u64,
     }
 }

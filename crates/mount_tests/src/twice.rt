@@ -6,6 +6,7 @@ ghost use Rattle.pm_trace.specs.Meaning.{history};
 
 use crate::script::{ENDLESS, LINES, found, run};
 use create_stops::reader::{inode_word, word_at};
+use ct_base::{LONG_GATE, SHORT_GATE};
 use ct_fs::{Stop, mount, mount_through};
 use ct_pm::{Pm, Step};
 use ct_write::Data;
@@ -22,7 +23,14 @@ use write_stops::{FILE, Holder, Wrote};
 fn gate_since(dev: &TracePm, from: u64) -> u64 {
     for i in from..dev.clock() {
         match dev.step_at(i) {
-            Step::Store { word: 512, .. } | Step::Store { word: 527, .. } => {
+            Step::Store {
+                word: LONG_GATE,
+                ..
+            }
+            | Step::Store {
+                word: SHORT_GATE,
+                ..
+            } => {
                 return i.saturating_add(3);
             }
             _ => {}

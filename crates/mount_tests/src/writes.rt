@@ -15,67 +15,65 @@ use std::alloc::Global;
 use std::process::Abort;
 use std::test::Fail;
 
-// How many calls there are, and how many of them come before the first stop.
-const CALLS: u64 = 13;
-
-const BEFORE: u64 = 1;
-
 // A file of a page and some bytes, one of two pages, an exchange between them, cuts, a rename that replaces, one that does not,
 // and a removal.
-fn call_at(number: u64) -> Call<'static> {
-    match number {
-        0 => Call::Create { path: b"/a" },
-        1 => Call::Write {
-            path: b"/a",
-            off: 0,
-            bytes: b"A",
-        },
-        2 => Call::Write {
-            path: b"/a",
-            off: 4095,
-            bytes: b"BB",
-        },
-        3 => Call::Create { path: b"/b" },
-        4 => Call::Fill {
-            path: b"/b",
-            off: 0,
-            len: 8192,
-            byte: 67,
-        },
-        5 => Call::Exchange {
-            path: b"/a",
-            off: 0,
-            other: b"/b",
-            other_off: 4096,
-            len: 4096,
-        },
-        6 => Call::Append {
-            path: b"/a",
-            bytes: b"D",
-        },
-        7 => Call::Truncate {
-            path: b"/a",
-            len: 5,
-        },
-        8 => Call::Truncate {
-            path: b"/b",
-            len: 0,
-        },
-        9 => Call::Rename {
-            path: b"/a",
-            to: b"/b",
-        },
-        10 => Call::Append {
-            path: b"/b",
-            bytes: b"E",
-        },
-        11 => Call::Rename {
-            path: b"/b",
-            to: b"/a",
-        },
-        _ => Call::Unlink { path: b"/a" },
-    }
-}
+const CALLS: [Call<'static>; 13] = [
+    Call::Create { path: b"/a" },
+    Call::Write {
+        path: b"/a",
+        off: 0,
+        bytes: b"A",
+    },
+    Call::Write {
+        path: b"/a",
+        off: 4095,
+        bytes: b"BB",
+    },
+    Call::Create { path: b"/b" },
+    Call::Fill {
+        path: b"/b",
+        off: 0,
+        len: 8192,
+        byte: 67,
+    },
+    Call::Exchange {
+        path: b"/a",
+        off: 0,
+        other: b"/b",
+        other_off: 4096,
+        len: 4096,
+    },
+    Call::Append {
+        path: b"/a",
+        bytes: b"D",
+    },
+    Call::Truncate {
+        path: b"/a",
+        len: 5,
+    },
+    Call::Truncate {
+        path: b"/b",
+        len: 0,
+    },
+    Call::Rename {
+        path: b"/a",
+        to: b"/b",
+    },
+    Call::Append {
+        path: b"/b",
+        bytes: b"E",
+    },
+    Call::Rename {
+        path: b"/b",
+        to: b"/a",
+    },
+    Call::Unlink { path: b"/a" },
+];
+
+// How many there are, and how many of them come before the first stop.
+const ALL: u64 = 13;
+
+const BEFORE: u64 = 1;
 
 // Makes a call of the list.
 fn play<D: Pm>(fs: &mut Fs<D>, call: &Call<'_>) -> Result<(), FsError> {
@@ -110,8 +108,8 @@ fn ran(alloc: Global, calls: u64, passes: u64) -> Result<(TracePm, u64), Fail> {
         Err(no_mount) => return Ok((no_mount.dev.into_inner(), 0)),
     };
     let mut done: u64 = 0;
-    for number in 0..calls {
-        if play(&mut fs, &call_at(number)).is_ok() {
+    for call in CALLS.iter().take(calls as usize) {
+        if play(&mut fs, call).is_ok() {
             done = done.saturating_add(1);
         }
     }
@@ -121,8 +119,8 @@ fn ran(alloc: Global, calls: u64, passes: u64) -> Result<(TracePm, u64), Fail> {
 // The plain tree after so many of the calls.
 fn tree_after(alloc: Global, calls: u64) -> Result<PlainTree, Fail> {
     let mut tree = PlainTree::new(alloc)?;
-    for number in 0..calls {
-        let _reply = tree.call(&call_at(number))?;
+    for call in CALLS.iter().take(calls as usize) {
+        let _reply = tree.call(call)?;
     }
     Ok(tree)
 }
@@ -193,7 +191,7 @@ pub fn is_before_or_after(
 // Stops the calls after so many calls of the device, and mounts three images of what is left, and one in which each line
 // stands at some step.
 fn stop_after(rt: &impl Abort, alloc: Global, passes: u64) -> Result<(), Fail> {
-    let (dev, done) = ran(alloc, CALLS, passes)?;
+    let (dev, done) = ran(alloc, ALL, passes)?;
     for image in IMAGES {
         let choice = choices(alloc, image, LINES)?;
         assert!(rt;
@@ -213,8 +211,8 @@ fn stop_after(rt: &impl Abort, alloc: Global, passes: u64) -> Result<(), Fail> {
 fn each_stop_of_a_change_mounts_to_the_tree_before_or_after(rt: HostRuntime) -> Result<(), Fail> {
     let alloc = rt.alloc();
     let (begin, _) = ran(alloc, BEFORE, ENDLESS)?;
-    let (end, done) = ran(alloc, CALLS, ENDLESS)?;
-    assert_eq!(rt; done, CALLS);
+    let (end, done) = ran(alloc, ALL, ENDLESS)?;
+    assert_eq!(rt; done, ALL);
     for passes in begin.clock()..end.clock().saturating_add(1) {
         if passes % 97 == 0 || is_near_fence(&end, passes) {
             stop_after(&rt, alloc, passes)?;

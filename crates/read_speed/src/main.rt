@@ -17,7 +17,7 @@ const PAGES: u64 = 1024;
 
 /// So many times the byte.
 fn bytes_of(alloc: Global, byte: u8) -> Option<Vec<u8>>
-    ensures { IfSome result (λ bytes. length bytes.items ≡ 1048576) }
+    ensures { IfSome result (λ bytes. length bytes.items ≡ BYTES) }
 {
     match vec![in alloc; byte; BYTES] {
         Ok(bytes) => Some(bytes),

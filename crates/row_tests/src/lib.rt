@@ -10,8 +10,6 @@ mod ends;
 #[cfg(test)]
 mod generated;
 #[cfg(test)]
-mod images;
-#[cfg(test)]
 mod plans;
 #[cfg(test)]
 mod renames;

@@ -1,13 +1,11 @@
 // Runs of the shell over plain memory: what they write, and how they end.
-ghost use Rattle.std.specs.Prelude.{◌≤◌};
-ghost use Rattle.ct_pm.specs.Device.{NothingPending};
-
 use crate::scripts::{BYTES, ENTRIES, NAMES, PLACES};
 use ct_base::{MemSink, MemSource, NoMemory};
 use ct_fs::{Why, format};
-use ct_pm::{Pm, RamPm};
-use ct_run::{Status, run};
+use ct_pm::RamPm;
+use ct_run::Status;
 use pm_fuse::FusePm;
+use script_runs::{Left, ran, ran_between};
 use std::alloc::Global;
 use std::process::Abort;
 use std::test::Fail;
@@ -20,43 +18,24 @@ fn bytes_of(alloc: Global, byte: u8, count: usize) -> Result<Vec<u8>, NoMemory> 
     }
 }
 
-// The status of a run of one word, and what it wrote.
-fn served<D: Pm + Drop>(
+// A run over plain memory, of a script whose reads and writes fail at these calls.
+fn served(
     alloc: Global,
-    dev: D,
-    word: &str,
     script: Vec<u8>,
-    faults: (Vec<u64>, Vec<u64>),
-) -> Result<(Status, MemSink), Fail>
-    requires { NothingPending (D.told dev) }
-{
-    let mut words = Vec::new(alloc);
-    words.push(String::from_str(alloc, word)?)?;
-    let mut input = MemSource::new(script, 1000, faults.0);
-    let mut out = MemSink::new(alloc, 1 << 20, faults.1)?;
-    let outcome = run(alloc, &words, dev, &mut input, &mut out);
-    Ok((outcome.status, out))
-}
-
-// The same over a device of so many pages, where no end fails.
-fn answered(alloc: Global, pages: u64, script: Vec<u8>) -> Result<(Status, MemSink), Fail>
-    requires { pages ≤ 262144 }
-{
-    let dev = RamPm::new(alloc, pages)?;
-    served(
-        alloc,
-        dev,
-        "mem",
-        script,
-        (Vec::new(alloc), Vec::new(alloc)),
-    )
+    reads: Vec<u64>,
+    writes: Vec<u64>,
+) -> Result<Left<RamPm>, NoMemory> {
+    let dev = RamPm::new(alloc, 4096)?;
+    let input = MemSource::new(script, 1000, reads);
+    let out = MemSink::new(alloc, 1 << 20, writes)?;
+    ran_between(alloc, "mem", dev, input, out)
 }
 
 fn check_rows(rt: &impl Abort, alloc: Global, rows: &[(&str, &str)]) -> Result<(), Fail> {
     for (script, replies) in rows {
-        let (status, out) = answered(alloc, 4096, script.as_bytes().to_vec(alloc)?)?;
-        assert_eq!(rt; status, Status::Done);
-        assert_eq!(rt; out.bytes(), replies.as_bytes(), "{script}");
+        let done = ran(alloc, "mem", RamPm::new(alloc, 4096)?, script.as_bytes())?;
+        assert_eq!(rt; done.status, Status::Done);
+        assert_eq!(rt; done.out.bytes(), replies.as_bytes(), "{script}");
     }
     Ok(())
 }
@@ -78,9 +57,9 @@ fn a_device_of_the_bound_has_pages_enough(rt: HostRuntime) -> Result<(), Fail> {
         (256 + 2 * 128 + 2 * 400, "ok\nok\n"),
         (450, "ok\nerror no pages\n"),
     ] {
-        let (status, out) = answered(alloc, pages, script.to_vec(alloc)?)?;
-        assert_eq!(rt; status, Status::Done);
-        assert_eq!(rt; out.bytes(), replies.as_bytes(), "{pages}");
+        let done = ran(alloc, "mem", RamPm::new(alloc, pages)?, script)?;
+        assert_eq!(rt; done.status, Status::Done);
+        assert_eq!(rt; done.out.bytes(), replies.as_bytes(), "{pages}");
     }
     Ok(())
 }
@@ -89,9 +68,9 @@ fn a_device_of_the_bound_has_pages_enough(rt: HostRuntime) -> Result<(), Fail> {
 fn a_device_has_256_pages_at_least(rt: HostRuntime) -> Result<(), Fail> {
     let alloc = rt.alloc();
     for (pages, want, code) in [(255, Status::NotImage(0), 3), (256, Status::Done, 0)] {
-        let (status, out) = answered(alloc, pages, Vec::new(alloc))?;
-        assert_eq!(rt; (status, status.code()), (want, code));
-        assert_eq!(rt; out.bytes(), b"".as_slice());
+        let done = ran(alloc, "mem", RamPm::new(alloc, pages)?, b"")?;
+        assert_eq!(rt; (done.status, done.status.code()), (want, code));
+        assert_eq!(rt; done.out.bytes(), b"".as_slice());
     }
     match format(alloc, RamPm::new(alloc, 255)?, 16) {
         Ok(fs) => {
@@ -113,27 +92,26 @@ fn long_scripts_and_lines_have_limits(rt: HostRuntime) -> Result<(), Fail> {
         (bytes_of(alloc, b'\n', 16_777_217)?, Status::TooLong, ""),
         (line, Status::Done, "error line\n"),
     ] {
-        let (status, out) = answered(alloc, 4096, script)?;
-        assert_eq!(rt; status, want);
-        assert_eq!(rt; out.bytes(), replies.as_bytes());
+        let done = served(alloc, script, Vec::new(alloc), Vec::new(alloc))?;
+        assert_eq!(rt; done.status, want);
+        assert_eq!(rt; done.out.bytes(), replies.as_bytes());
     }
     Ok(())
 }
 
-// The first call of the source or of the sink fails, or the word is no command.
+// The first call of the source or of the sink fails.
 #[test]
-fn faults_and_words_end_a_run(rt: HostRuntime) -> Result<(), Fail> {
+fn a_fault_of_an_end_ends_a_run(rt: HostRuntime) -> Result<(), Fail> {
     let alloc = rt.alloc();
-    for (word, reads, writes, want, code) in [
-        ("mem", 1, 0, Status::ReadFault, 5),
-        ("mem", 0, 1, Status::WriteFault, 6),
-        ("run", 0, 0, Status::Usage, 2),
+    for (reads, writes, want, code) in [
+        (1, 0, Status::ReadFault, 5),
+        (0, 1, Status::WriteFault, 6),
     ] {
         let script = b"create /a\n".to_vec(alloc)?;
-        let faults = (vec![in alloc; 0; reads]?, vec![in alloc; 0; writes]?);
-        let (status, out) = served(alloc, RamPm::new(alloc, 4096)?, word, script, faults)?;
-        assert_eq!(rt; (status, status.code()), (want, code));
-        assert_eq!(rt; out.bytes(), b"".as_slice());
+        let reads = vec![in alloc; 0; reads]?;
+        let done = served(alloc, script, reads, vec![in alloc; 0; writes]?)?;
+        assert_eq!(rt; (done.status, done.status.code()), (want, code));
+        assert_eq!(rt; done.out.bytes(), b"".as_slice());
     }
     Ok(())
 }
@@ -144,16 +122,9 @@ fn a_device_that_fails_ends_a_run(rt: HostRuntime) -> Result<(), Fail> {
     let alloc = rt.alloc();
     for passes in [10, 5_780] {
         let dev = FusePm::new(RamPm::new(alloc, 256)?, passes);
-        let script = b"create /a\n".to_vec(alloc)?;
-        let (status, out) = served(
-            alloc,
-            dev,
-            "mem",
-            script,
-            (Vec::new(alloc), Vec::new(alloc)),
-        )?;
-        assert_eq!(rt; (status, status.code()), (Status::DeviceFault, 4));
-        assert_eq!(rt; out.bytes(), b"".as_slice());
+        let done = ran(alloc, "mem", dev, b"create /a\n")?;
+        assert_eq!(rt; (done.status, done.status.code()), (Status::DeviceFault, 4));
+        assert_eq!(rt; done.out.bytes(), b"".as_slice());
     }
     Ok(())
 }

@@ -1,5 +1,5 @@
 // Scripts over a tree that begins as an empty root: their lines, and the lines that answer them.
-use ct_base::{MemSink, WriteFault};
+use ct_base::{MemSink, NAME_BYTES, WriteFault};
 use ct_plain::PlainTree;
 use ct_script::{Quote, Scratch, Shown, parse, put_end, put_name, put_names, put_reply};
 use ct_tree::{NameList, Reply};
@@ -124,7 +124,7 @@ fn show_names(out: &mut MemSink, quote: &mut Quote, names: &NameList) -> Result<
     put_names(out)?;
     for i in 0..10 {
         match names.get(i) {
-            Some(name) if name.len() <= 248 => put_name(out, quote, name)?,
+            Some(name) if name.len() <= NAME_BYTES => put_name(out, quote, name)?,
             _ => break,
         }
     }

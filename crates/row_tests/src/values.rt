@@ -3,7 +3,7 @@ ghost use Rattle.std.specs.Prelude.{◌≡◌, IfOk};
 ghost use Rattle.ct_pm.specs.Images.{IsSettled};
 ghost use Rattle.pm_trace.specs.Meaning.{history};
 
-use ct_base::Page;
+use ct_base::{FIRST_PAGE, PAGE_WORDS, PARTITION_SLOT, Page, SLOT_PAGES};
 use ct_frames::Frames;
 use ct_pieces::{Piece, Pieces, count};
 use ct_pm::{Pm, PmFault, Step};
@@ -23,7 +23,9 @@ fn device(alloc: Global, fail_at: Vec<u64>) -> Result<TracePm, Fail>
 fn make(dev: &mut TracePm, steps: &[Step]) -> Result<(), PmFault> {
     for step in steps {
         match *step {
-            Step::Store { word, value } if word / 512 < dev.pages() => dev.store(word, value)?,
+            Step::Store { word, value } if word / PAGE_WORDS < dev.pages() => {
+                dev.store(word, value)?
+            }
             Step::Flush { line } if line / 64 < dev.pages() => dev.flush(line)?,
             Step::Fence => dev.fence()?,
             _ => {}
@@ -35,7 +37,7 @@ fn make(dev: &mut TracePm, steps: &[Step]) -> Result<(), PmFault> {
 // A word that a crash leaves, where the first two lines are as they were after the steps that are chosen.
 fn left_at(alloc: Global, dev: &TracePm, choice: [u64; 2], word: u64) -> Result<u64, Fail> {
     let left = dev.crash(alloc, &choice, Vec::new(alloc))?;
-    Ok(if word / 512 < left.pages() {
+    Ok(if word / PAGE_WORDS < left.pages() {
         left.load(word)
     } else {
         u64::MAX
@@ -95,7 +97,7 @@ fn a_listed_call_fails(rt: HostRuntime) -> Result<(), Fail> {
 fn pages_are_taken_until_none_is_left(rt: HostRuntime) -> Result<(), Fail> {
     let mut frames = Frames::new(rt.alloc(), 256)?;
     assert_eq!(rt; frames.free(), 222);
-    for page in 34..256u64 {
+    for page in FIRST_PAGE..256u64 {
         assert_eq!(rt; frames.take(), Some(Page::new(page)));
     }
     assert_eq!(rt; frames.take(), None);
@@ -103,7 +105,7 @@ fn pages_are_taken_until_none_is_left(rt: HostRuntime) -> Result<(), Fail> {
 }
 
 // The virtual page at which root slot 10 begins.
-const FIRST: u64 = 10 << 27;
+const FIRST: u64 = PARTITION_SLOT * SLOT_PAGES;
 
 #[test]
 fn ranges_have_so_many_pieces(rt: HostRuntime) {

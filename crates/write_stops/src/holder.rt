@@ -9,6 +9,7 @@ ghost use Rattle.ct_grow.specs.Grown.{IsReady};
 ghost use Rattle.ct_write.specs.Written.{CanWrite};
 ghost use Rattle.write_stops.specs.Held.{IsHeld};
 
+use ct_base::{FILE_KIND, TOP_LEVEL};
 use ct_frames::Frames;
 use ct_inode::get;
 use ct_level::length_of;
@@ -54,11 +55,11 @@ pub enum Wrote<D: Pm> {
 // Whether the file has room for bytes at an offset, and the pages for them are free.
 fn can_write<D: Pm>(dev: &D, frames: &Frames, off: u64, len: u64) -> bool
     requires { IsReady (D.words dev.now) }
-    ensures can { IsTrue result → CanWrite (D.words dev.now) 2 off len }
-    ensures room { IsTrue result → missing_of (D.words dev.now) (plan_wants (inode_at (view (D.words dev.now)) 2) off len (part (inode_at (view (D.words dev.now)) 2))) ≤ length frames.now.free }
+    ensures can { IsTrue result → CanWrite (D.words dev.now) FILE off len }
+    ensures room { IsTrue result → missing_of (D.words dev.now) (plan_wants (inode_at (view (D.words dev.now)) FILE) off len (part (inode_at (view (D.words dev.now)) FILE))) ≤ length frames.now.free }
 {
     let inode = get(dev, FILE);
-    if inode.kind != 1 || inode.level > 9 || len == 0 {
+    if inode.kind != FILE_KIND || inode.level > TOP_LEVEL || len == 0 {
         return false;
     }
     let most = length_of(inode.level as u32);

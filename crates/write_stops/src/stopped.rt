@@ -6,6 +6,7 @@ ghost use Rattle.pm_trace.specs.Meaning.{history};
 
 use crate::read::{holds, put};
 use crate::{Holder, Wrote};
+use ct_base::{LEAST_PAGES, LONG_GATE, SHORT_GATE};
 use ct_pm::Step;
 use ct_write::Data;
 use growth_stops::{Growth, Start, Stopping, with_file};
@@ -17,7 +18,7 @@ use std::process::Abort;
 use std::test::Fail;
 
 // The pages of the device.
-const PAGES: u64 = 256;
+const PAGES: u64 = LEAST_PAGES;
 
 // The room for the steps that lead up to a file, and for those of its writes.
 const FIRST_ROOM: u64 = 60_000;
@@ -91,11 +92,11 @@ fn gate_since(dev: &TracePm, from: u64) -> u64 {
     for i in from..dev.clock() {
         match dev.step_at(i) {
             Step::Store {
-                word: 512,
+                word: LONG_GATE,
                 value: _,
             }
             | Step::Store {
-                word: 527,
+                word: SHORT_GATE,
                 value: _,
             } => return i,
             _ => {}
@@ -143,6 +144,43 @@ impl Lists {
     }
 }
 
+// Where a scene is stopped: after so many calls of the device, of which so many come before its gate is stored.
+#[derive(Clone, Copy)]
+struct Stop {
+    scene: Scene,
+    passes: u64,
+    gate: u64,
+}
+
+// Each image of a device that was stopped has the bytes of before until the gate is stored, and those of after once it is fenced.
+fn check_stop(
+    rt: &impl Abort,
+    alloc: Global,
+    lists: &Lists,
+    dev: &TracePm,
+    stop: Stop,
+) -> Result<(), Fail> {
+    let Stop {
+        scene,
+        passes,
+        gate,
+    } = stop;
+    for image in IMAGES {
+        let found = lists.found_in(alloc, dev, image)?;
+        let right = match found {
+            // The gate is stored, flushed and fenced.
+            Outcome::Before => passes < gate.saturating_add(3),
+            Outcome::After => passes > gate,
+            Outcome::Neither => false,
+        };
+        assert!(rt;
+            right,
+            "{found:?} in {image:?} of {scene:?} after {passes} calls"
+        );
+    }
+    Ok(())
+}
+
 // Stops a scene after each so many of its calls, and after each call of its record.
 fn stop_after_each(rt: &impl Abort, alloc: Global, scene: Scene, stride: u64) -> Result<(), Fail>
     requires { 1 ≤ stride }
@@ -170,29 +208,12 @@ fn stop_after_each(rt: &impl Abort, alloc: Global, scene: Scene, stride: u64) ->
             assert!(rt; false, "{scene:?} after {passes} calls");
             return Ok(());
         };
-        for image in IMAGES {
-            let found = lists.found_in(alloc, &dev, image)?;
-            assert_ne!(rt;
-                found,
-                Outcome::Neither,
-                "{image:?} of {scene:?} after {passes} calls"
-            );
-            if passes <= gate {
-                assert_eq!(rt;
-                    found,
-                    Outcome::Before,
-                    "{image:?} of {scene:?} after {passes} calls"
-                );
-            }
-            // The gate is stored, flushed and fenced.
-            if passes >= gate.saturating_add(3) {
-                assert_eq!(rt;
-                    found,
-                    Outcome::After,
-                    "{image:?} of {scene:?} after {passes} calls"
-                );
-            }
-        }
+        let stop = Stop {
+            scene,
+            passes,
+            gate,
+        };
+        check_stop(rt, alloc, &lists, &dev, stop)?;
     }
     Ok(())
 }

@@ -2,6 +2,7 @@ ghost use Rattle.std.specs.Prelude.{◌≡◌, ◌≤◌, IfOk, length};
 
 use crate::read::{byte_of, holds, put, size_of};
 use crate::{Holder, Wrote};
+use ct_base::{LONG_GATE, MOST_PAGES};
 use ct_pm::{Pm, RamPm, Step};
 use ct_write::Data;
 use growth_stops::{Growth, with_file};
@@ -13,7 +14,7 @@ use std::test::Fail;
 
 // A file of a level on a device of so many pages.
 fn file_of(alloc: Global, pages: u64, level: u32) -> Option<Holder<RamPm>>
-    requires { pages ≤ 262144 }
+    requires { pages ≤ MOST_PAGES }
 {
     let Ok(dev) = RamPm::new(alloc, pages) else {
         return None;
@@ -132,7 +133,10 @@ fn pairs_since(dev: &TracePm, from: u64) -> u64 {
     let mut pairs = 0;
     for i in from..dev.clock() {
         match dev.step_at(i) {
-            Step::Store { word: 512, value } => pairs = value.max(pairs),
+            Step::Store {
+                word: LONG_GATE,
+                value,
+            } => pairs = value.max(pairs),
             _ => {}
         }
     }

@@ -1,0 +1,96 @@
+// Runs over an image: what a run leaves for the next, and why a device is none.
+use check_tests::{ROWS, image};
+use ct_base::NoMemory;
+use ct_pm::RamPm;
+use ct_run::Status;
+use pm_fuse::FusePm;
+use script_runs::{formatted, ran};
+use std::alloc::Global;
+use std::process::Abort;
+use std::test::Fail;
+
+// Runs scripts one after another over an image of 256 pages, and looks at the replies to each.
+fn check_runs(rt: &impl Abort, alloc: Global, rows: &[(&str, &str)]) -> Result<(), Fail> {
+    let mut dev = formatted(alloc, 256)?;
+    for (script, replies) in rows {
+        let done = ran(alloc, "run x", dev, script.as_bytes())?;
+        assert_eq!(rt; done.status, Status::Done);
+        assert_eq!(rt; done.out.bytes(), replies.as_bytes(), "{script}");
+        dev = done.dev;
+    }
+    Ok(())
+}
+
+#[test]
+fn a_run_goes_on_where_the_last_one_ended(rt: HostRuntime) -> Result<(), Fail> {
+    let rows = [
+        ("create /a\nmkdir /d\n", "ok\nok\n"),
+        ("create /a\nlist /\n", "error exists\nnames a d\n"),
+        ("write /a 4095 4142\nrename /a /d/b\n", "ok\nok\n"),
+        (
+            "list /\nread /d/b 4094 9\nunlink /d/b\nrmdir /d\n",
+            "names d\ndata 004142\nok\nok\n",
+        ),
+        ("stat /\n", "dir 0\n"),
+    ];
+    check_runs(&rt, rt.alloc(), &rows)
+}
+
+// The root is one of 16 inodes.
+#[test]
+fn an_image_has_so_many_inodes(rt: HostRuntime) -> Result<(), Fail> {
+    let rows = [(
+        "create /f1\ncreate /f2\ncreate /f3\ncreate /f4\ncreate /f5\ncreate /f6\ncreate /f7\ncreate /f8\ncreate /f9\ncreate /f10\ncreate /f11\ncreate /f12\ncreate /f13\ncreate /f14\ncreate /f15\ncreate /f16\n",
+        "ok\nok\nok\nok\nok\nok\nok\nok\nok\nok\nok\nok\nok\nok\nok\nerror no inode\n",
+    )];
+    check_runs(&rt, rt.alloc(), &rows)
+}
+
+// The status of a run over a device, and how many bytes it wrote.
+fn told(alloc: Global, line: &str, dev: RamPm) -> Result<(Status, u8, usize), NoMemory> {
+    let done = ran(alloc, line, dev, b"create /a\n")?;
+    Ok((done.status, done.status.code(), done.out.bytes().len()))
+}
+
+#[test]
+fn the_first_rule_that_fails_is_told(rt: HostRuntime) -> Result<(), Fail> {
+    let alloc = rt.alloc();
+    for (first, then, rule) in ROWS {
+        let dev = image(alloc, first, then).ok_or("no memory")?;
+        let want = (Status::NotImage(rule), 3, 0);
+        assert_eq!(rt; told(alloc, "run x", dev)?, want, "{first:?} {then:?}");
+    }
+    for (pages, rule) in [(255, 0), (256, 1)] {
+        let want = (Status::NotImage(rule), 3, 0);
+        assert_eq!(rt; told(alloc, "run x", RamPm::new(alloc, pages)?)?, want);
+    }
+    Ok(())
+}
+
+#[test]
+fn a_format_reads_and_writes_nothing(rt: HostRuntime) -> Result<(), Fail> {
+    let alloc = rt.alloc();
+    for (pages, want) in [
+        (256, (Status::Done, 0, 0)),
+        (255, (Status::NotImage(0), 3, 0)),
+    ] {
+        let dev = RamPm::new(alloc, pages)?;
+        assert_eq!(rt; told(alloc, "format x 16", dev)?, want, "{pages} pages");
+    }
+    Ok(())
+}
+
+// A mount of an image at rest makes fewer calls of its device than the second number.
+#[test]
+fn a_device_that_fails_ends_a_run_over_an_image(rt: HostRuntime) -> Result<(), Fail> {
+    let alloc = rt.alloc();
+    for passes in [0, 40] {
+        let dev = FusePm::new(formatted(alloc, 256)?, passes);
+        let done = ran(alloc, "run x", dev, b"create /a\n")?;
+        assert_eq!(rt; (done.status, done.status.code()), (Status::DeviceFault, 4));
+        assert_eq!(rt; done.out.bytes(), b"".as_slice());
+        let again = ran(alloc, "run x", done.dev.into_inner(), b"")?;
+        assert_eq!(rt; again.status, Status::Done);
+    }
+    Ok(())
+}

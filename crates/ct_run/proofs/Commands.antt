@@ -1,6 +1,6 @@
 -- What is known of the numbers of a command, and which command two words are.
-use Rattle.std.proofs.Common.{◌≡◌, ℕ, ◌<◌, ◌≤◌, Bool, true, false, List, [], ◌∷◌, length, map, get_or, Option, Some, None, ap, arith, refl, if◌then◌else◌}
-use Rattle.std.specs.Prelude.{◌&&◌, nat_le, option_and_then, codes}
+use Rattle.std.proofs.Common.{◌≡◌, ℕ, ◌<◌, ◌≤◌, Bool, true, false, List, [], ◌∷◌, length, map, get_or, Option, Some, None, ap, arith, refl, subst, ◌∙◌, if◌then◌else◌}
+use Rattle.std.specs.Prelude.{◌&&◌, nat_eq, nat_le, option_and_then, codes}
 use Rattle.std.specs.Str.{bytes_eq}
 use Rattle.std.proofs.lemmas.Bool.Decides.{nat_tests}
 use Rattle.ct_base.specs.declared.layout.TheConstants.{LEAST_INODES, MOST_INODES}
@@ -18,6 +18,34 @@ AreWithin (Some Run) = Unit {0}
 AreWithin (Some (Format inodes)) = (LEAST_INODES ≤ inodes) × (inodes ≤ MOST_INODES)
 AreWithin (Some (Gen number count)) = count ≤ MOST_DRAWS
 AreWithin (Some Dump) = Unit {0}
+
+-- the place of a command among the commands
+abbrev pub place : Option Command → ℕ
+place None = 0
+place (Some Mem) = 1
+place (Some Run) = 2
+place (Some (Format inodes)) = 3
+place (Some (Gen number count)) = 4
+place (Some Dump) = 5
+
+pub unequal : (m n : ℕ) → m ≡ n → nat_eq m n ≡ false → ⊥
+unequal m n same differ = grind (arith, nat_tests)
+
+-- a command is not one of another place
+pub apart : {p o q : Option Command} → p ≡ o → o ≡ q → nat_eq (place p) (place q) ≡ false → ⊥
+apart {p = p} {q = q} of is differ = unequal (place p) (place q) (ap place (of ∙ is)) differ
+
+-- what holds of the numbers of a command holds of those of the same command
+pub same_format : {n inodes : ℕ} {o : Option Command} (P : ℕ → Type 0) → Some (Format n) ≡ o → o ≡ Some (Format inodes) → P n → P inodes
+same_format {n = n} {inodes = inodes} P of is holds =
+    let same : n ≡ inodes = cc in
+    subst P same holds
+
+pub same_gen : {n k number count : ℕ} {o : Option Command} (P : ℕ → ℕ → Type 0) → Some (Gen n k) ≡ o → o ≡ Some (Gen number count) → P n k → P number count
+same_gen {n = n} {k = k} {number = number} {count = count} P of is holds =
+    let numbers : n ≡ number = cc in
+    let counts : k ≡ count = cc in
+    subst (P number) counts (subst (λ m. P m k) numbers holds)
 
 either : (b : Bool) (x y : Option Command) → AreWithin x → AreWithin y → AreWithin (if b then x else y)
 either true x y p q = p

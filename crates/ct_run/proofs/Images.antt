@@ -23,7 +23,9 @@ use Rattle.ct_tree.specs.Tree.{Tree}
 use Rattle.ct_shell.proofs.Kept.{dev_moment}
 use Rattle.ct_shell.specs.Moments.{Moment, moment, moment_in}
 use Rattle.ct_run.specs.Ends.{HasCauses, IsDoneOrNoMemory, IsServed, IsUnbegun, status_of}
-use Rattle.ct_run.specs.Images.{EndsFormat, IsRefusal, Mounts, Settles}
+use Rattle.ct_run.specs.Images.{EndsFormat, IsRefusal, IsUntouched, Mounts, Settles}
+use Rattle.ct_run.specs.Words.{TakesImage}
+use Rattle.ct_run.specs.declared.command.Command.{Command}
 use Rattle.ct_run.specs.declared.status.Status.{Status}
 use Rattle.ct_run.specs.declared.status.Status.TheVariants.{Done, DeviceFault, NoMemory, NotImage, ReadFault, TooLong, Usage, WriteFault}
 
@@ -58,6 +60,11 @@ settled_or_not (Damage n) status dev dev' from to of unbegun first low settled m
 ]
 settled_or_not Fault status dev dev' from to of unbegun has low settled mounts = absurd (unbegun (subst IsServed (sym of) tt))
 settled_or_not Memory status dev dev' from to of unbegun has low settled mounts = inr (record { head = has; mounts = mounts; settled = settled has (λ is. absurd (cc)) })
+
+-- and so is one that a command mounted
+pub untouched_by : {D : Type 0} (o : Option Command) (dev dev' : D) (from to : Moment) → TakesImage o → (dev' ≡ dev) ⊎ Settles from to → IsUntouched o dev dev' from to
+untouched_by o dev dev' from to takes (inl is) = inl is
+untouched_by o dev dev' from to takes (inr settles) = inr (takes, settles)
 
 -- a file system that was mounted stands from then on
 pub settles_at : {D : Type 0} {bound : _} (fs : Fs D bound) (from : Moment) → Settles from (moment (bound.told (fs_dev fs)) (bound.words (fs_dev fs))) → Settles from (moment_in fs.state)

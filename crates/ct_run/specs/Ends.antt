@@ -1,7 +1,8 @@
 -- The ways in which a run may end, and what it leaves.
-use Rattle.std.specs.Prelude.{◌≡◌, ◌⊎◌, ℕ, ◌<◌, ◌≤◌, List, [], length}
+use Rattle.std.specs.Prelude.{◌≡◌, ◌⊎◌, ℕ, ◌<◌, ◌≤◌, List, [], length, Ok, Err}
 use Rattle.std.specs.Io.KnownBytes.{Consumes, IsAtEnd}
 use Rattle.std.specs.declared.option.Option.{Option}
+use Rattle.std.specs.declared.result.Result.{Result}
 use Rattle.ct_base.specs.Causes.{Rose}
 use Rattle.ct_base.specs.Format.{IsFormatted}
 use Rattle.ct_call.specs.Calls.{Holds}
@@ -13,7 +14,10 @@ use Rattle.ct_script.specs.Script.{items, whole}
 use Rattle.ct_tree.specs.Tree.{Dir, Tree, none}
 use Rattle.ct_shell.specs.Moments.{Begins, Moment}
 use Rattle.ct_shell.specs.Served.{Served, Stopped, StoppedBy}
+use Rattle.ct_shell.specs.declared.call.ServeEnd.{ServeEnd}
 use Rattle.ct_shell.specs.declared.call.ServeEnd.TheVariants.{Device, Output}
+use Rattle.ct_shell.specs.declared.script.ReadEnd.{ReadEnd}
+use Rattle.ct_shell.specs.declared.script.ReadEnd.TheVariants.{Fault as Unreadable, TooLong as Overlong}
 use Rattle.ct_run.specs.Words.{mem_inodes}
 use Rattle.ct_run.specs.declared.serving.TheConstants.{SCRIPT_BYTES}
 use Rattle.ct_run.specs.declared.status.Status.{Status}
@@ -129,6 +133,17 @@ abbrev pub status_of : Why → Status
 status_of (Damage rule) = NotImage rule
 status_of Fault = DeviceFault
 status_of Memory = NoMemory
+
+-- how a run ends whose script was not read whole
+abbrev pub unread_status : ReadEnd → Status
+unread_status Unreadable = ReadFault
+unread_status Overlong = TooLong
+
+-- how a run ends whose script was served so
+abbrev pub served_status : {A : Type 0} → Result A ServeEnd → Status
+served_status (Ok done) = Done
+served_status (Err Device) = DeviceFault
+served_status (Err Output) = WriteFault
 
 -- the exit status of a program
 abbrev pub code_of : Status → ℕ

@@ -8,7 +8,7 @@ use ct_gen::MOST_DRAWS;
 use ct_script::number_of;
 
 /// What a run does of its device.
-#[derive(Clone, Copy, Debug, PartialEq, Eq)]
+#[derive(Clone, Copy)]
 pub enum Command {
     /// Makes a file system with 1,024 inodes of all its pages, and serves the script of the input over it.
     Mem,

@@ -2,7 +2,7 @@
 ghost use Rattle.std.specs.Prelude.{◌≡◌, ◌+◌, ◌<◌, ◌≤◌, ℕ, IfOk, IfSome, IsSomeAnd, length};
 ghost use Rattle.ct_call.specs.Calls.{Keeps};
 ghost use Rattle.ct_call.specs.Seen.{faults_in};
-ghost use Rattle.ct_run.specs.Ends.{Ends, HasCauses, IsCutShort, IsServed, IsUnserved};
+ghost use Rattle.ct_run.specs.Ends.{Ends, HasCauses, IsCutShort, IsServed, IsUnserved, served_status, unread_status};
 ghost use Rattle.ct_shell.specs.Moments.{moment, moment_in};
 ghost use Rattle.ct_tree.specs.Tree.{Tree};
 
@@ -43,6 +43,27 @@ impl Buffers {
     }
 }
 
+// How a run ends whose script was not read whole.
+fn unread_status(end: ReadEnd) -> Status
+    ensures { result ≡ unread_status end }
+{
+    match end {
+        ReadEnd::Fault => Status::ReadFault,
+        ReadEnd::TooLong => Status::TooLong,
+    }
+}
+
+// How a run ends whose script was served so.
+fn served_status(served: Result<(), ServeEnd>) -> Status
+    ensures { result ≡ served_status served }
+{
+    match served {
+        Ok(()) => Status::Done,
+        Err(ServeEnd::Device) => Status::DeviceFault,
+        Err(ServeEnd::Output) => Status::WriteFault,
+    }
+}
+
 /// Serves the script of the input over a file system.
 fn serve_all<D: Pm, S: Source, O: Sink>(
     fs: &mut Fs<D>,
@@ -65,15 +86,10 @@ fn serve_all<D: Pm, S: Source, O: Sink>(
     let buffer = buffers.script.as_mut_slice();
     let count = match read_all(input, buffer) {
         Ok(count) => count,
-        Err(ReadEnd::Fault) => return Status::ReadFault,
-        Err(ReadEnd::TooLong) => return Status::TooLong,
+        Err(end) => return unread_status(end),
     };
     let script = &buffer[..count];
-    match serve(fs, script, &mut buffers.scratch, &mut buffers.replies, out) {
-        Ok(()) => Status::Done,
-        Err(ServeEnd::Device) => Status::DeviceFault,
-        Err(ServeEnd::Output) => Status::WriteFault,
-    }
+    served_status(serve(fs, script, &mut buffers.scratch, &mut buffers.replies, out))
 }
 
 /// Serves the script of the input over a file system, and hands its device out.

@@ -40,19 +40,27 @@ impl Status {
             Status::TooLong => 8,
         }
     }
+
+    // What a program says that ends so, without the number of a rule.
+    fn text(&self) -> &'static str {
+        match self {
+            Status::Done => "done",
+            Status::Usage => "usage",
+            Status::NotImage(_) => "not an image",
+            Status::DeviceFault => "device fault",
+            Status::ReadFault => "read fault",
+            Status::WriteFault => "write fault",
+            Status::NoMemory => "no memory",
+            Status::TooLong => "too long",
+        }
+    }
 }
 
 impl fmt::Display for Status {
     fn fmt<W: fmt::Write>(&self, f: &mut fmt::Formatter<W>) -> fmt::Result {
         match self {
-            Status::Done => write!(f, "done"),
-            Status::Usage => write!(f, "usage"),
-            Status::NotImage(rule) => write!(f, "not an image (rule {rule})"),
-            Status::DeviceFault => write!(f, "device fault"),
-            Status::ReadFault => write!(f, "read fault"),
-            Status::WriteFault => write!(f, "write fault"),
-            Status::NoMemory => write!(f, "no memory"),
-            Status::TooLong => write!(f, "too long"),
+            Status::NotImage(rule) => write!(f, "{} (rule {rule})", self.text()),
+            _ => f.write_str(self.text()),
         }
     }
 }

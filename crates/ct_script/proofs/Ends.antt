@@ -1,9 +1,9 @@
 -- How many bytes 10 the texts of replies have.
-use Rattle.std.proofs.Common.{◌≡◌, ◌≢◌, ◌∙◌, ℕ, zero, suc, ◌+◌, ◌<◌, ◌≤◌, List, [], ◌∷◌, ◌++◌, length, get_or, refl, sym, ap, subst, arith, inl, inr, Bool, true, false, if◌then◌else◌}
-use Rattle.std.specs.Prelude.{◌==◌, ◌/◌, ◌%◌, ◌||◌, nat_lt, nat_le, codes, count_by, cond}
+use Rattle.std.proofs.Common.{◌≡◌, ◌≢◌, ◌∙◌, ℕ, zero, suc, ◌+◌, List, [], ◌∷◌, ◌++◌, length, get_or, refl, sym, ap, arith, Bool, true, false, if◌then◌else◌}
+use Rattle.std.specs.Prelude.{◌==◌, ◌/◌, ◌%◌, nat_lt, codes, count_by, cond}
 use Rattle.std.specs.List.{flat_map}
 use Rattle.std.specs.Fmt.{digit_glyph, digits_onto, digits, decimal}
-use Rattle.std.proofs.lemmas.Bool.{cases_Bool, ne_eqb}
+use Rattle.std.proofs.lemmas.Bool.{ne_eqb}
 use Rattle.std.proofs.lemmas.List.Sums.{sum_by-append}
 use Rattle.hex.specs.Hex.{encode_with, encode_lower, lower_digits}
 use Rattle.percent_encoding.specs.Percent.{percent_encode_byte}
@@ -11,7 +11,7 @@ use Rattle.ct_tree.specs.declared.call.Refusal.{Refusal}
 use Rattle.ct_tree.specs.declared.call.Refusal.TheVariants.{BadPath, NotFound, NotDir, IsDir, Exists, NotEmpty, IntoSelf, IsRoot, TooBig, BadRange, Overlap, TooLong, NoInode, NoPartition, NoPages}
 use Rattle.ct_tree.specs.declared.call.Reply.{Reply}
 use Rattle.ct_tree.specs.declared.call.Reply.TheVariants.{Done, Data, File, Dir, Names, At, Refused, BadLine}
-use Rattle.ct_script.specs.Texts.{line_of, data_text, is_escaped, escaped_byte, escaped, name_text, refusal_text, reply_text, reply_line, text}
+use Rattle.ct_script.specs.Texts.{data_text, is_escaped, escaped_byte, escaped, name_text, refusal_text, reply_text, reply_line, text}
 
 -- how many bytes of a text end a line
 abbrev pub ends : List ℕ → ℕ

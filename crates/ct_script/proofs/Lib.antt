@@ -3,4 +3,5 @@ pub mod Ends
 pub mod Lines
 pub mod Numbers
 pub mod Puts
+pub mod Verbs
 pub mod Words

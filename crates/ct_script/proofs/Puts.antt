@@ -10,7 +10,7 @@ use Rattle.std.specs.Prelude.{codes, ◌/◌, ◌%◌, slice_index}
 use Rattle.hex.specs.Hex.{encode_with, encode_lower, lower_digits}
 use Rattle.percent_encoding.specs.Percent.{percent_encode_byte}
 use Rattle.ct_base.specs.Bytes.{PutAppends}
-use Rattle.ct_base.specs.Causes.{Rose}
+use Rattle.ct_base.specs.Causes.{Rose, HasCause}
 use Rattle.ct_script.specs.Texts.{line_of, data_text, escaped, escaped_byte}
 
 pub appends_nil : (a : Option (List ℕ)) → Appends a a []
@@ -42,6 +42,11 @@ fault_after a b d p q rest u v =
 -- a count that rose later rose
 pub rose_after : (a b c : ℕ) → a ≤ b → Rose b c → Rose a c
 rose_after a b c h r = omega (arith, h, r)
+
+-- the cause of a fault in the last of two writes is one of both
+pub cause_after : {T E : Type 0} (r : Result T E) (a b c : ℕ) → a ≤ b → HasCause b c r → HasCause a c r
+cause_after (Ok x) a b c h cause = let later = cause.later in record { later = omega (arith, h, later); failed = tt }
+cause_after (Err e) a b c h cause = let later = cause.later in record { later = omega (arith, h, later); failed = rose_after a b c h cause.failed }
 
 pub whole_at : (parts : List (Bor (List ℕ))) (i : ℕ) (x : Bor (List ℕ)) → take (i + 1) parts ≡ take i parts ++ x ∷ [] →
     flat_map (λ part. part.now) parts ≡ flat_map (λ part. part.now) (take i parts) ++ (x.now ++ flat_map (λ part. part.now) (drop (i + 1) parts))

@@ -43,6 +43,23 @@ verb_of word =
     else if bytes_eq word (codes "truncate") then Some Truncate
     else other_verb_of word
 
+-- the word that a verb is written as
+abbrev pub word_of : Verb → List ℕ
+word_of Create = codes "create"
+word_of Mkdir = codes "mkdir"
+word_of Write = codes "write"
+word_of Fill = codes "fill"
+word_of Append = codes "append"
+word_of Read = codes "read"
+word_of Truncate = codes "truncate"
+word_of Unlink = codes "unlink"
+word_of Rmdir = codes "rmdir"
+word_of Rename = codes "rename"
+word_of Exchange = codes "exchange"
+word_of Stat = codes "stat"
+word_of ListNames = codes "list"
+word_of Where = codes "where"
+
 -- a path has one byte or more, and is percent-decoded as a whole
 abbrev pub path_of : List ℕ → Option (List ℕ)
 path_of [] = None

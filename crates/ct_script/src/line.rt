@@ -1,5 +1,5 @@
 // A line as a call.
-ghost use Rattle.std.specs.Prelude.{◌≡◌, ◌+◌, ◌≤◌, ◌==◌, [], ◌∷◌, length, if◌then◌else◌};
+ghost use Rattle.std.specs.Prelude.{◌≡◌, ◌+◌, ◌≤◌, ◌==◌, List, ℕ, [], ◌∷◌, length, Some, if◌then◌else◌};
 ghost use Rattle.std.specs.Option.{option_map, option_and_then};
 ghost use Rattle.ct_base.specs.Split.{parts_at};
 ghost use Rattle.ct_tree.specs.Step.{op_of, append, truncate, rename, write, read};
@@ -40,12 +40,9 @@ fn parse_words<'a>(line: &[u8], scratch: &'a mut Scratch) -> Option<Call<'a>>
     ensures { option_map op_of result ≡ call_in (parts_at 32 line.now) }
 {
     let (word, more) = first_part(line, b' ');
-    match more {
-        None => None,
-        Some(rest) => match verb_of(word) {
-            None => None,
-            Some(verb) => after_verb(verb, rest, scratch),
-        },
+    match (verb_of(word), more) {
+        (Some(verb), Some(rest)) => after_verb(verb, rest, scratch),
+        _ => None,
     }
 }
 
@@ -98,26 +95,27 @@ fn of_path<'a>(verb: Verb, word: &[u8], scratch: &'a mut Scratch) -> Option<Call
     requires { length word.now ≤ LINE_BYTES }
     ensures { option_map op_of result ≡ call_with verb (word.now ∷ []) }
 {
-    let path = match scratch.path(word) {
-        Some(path) => path,
-        None => return None,
-    };
-    match verb {
-        Verb::Create => Some(Call::Create { path }),
-        Verb::Mkdir => Some(Call::Mkdir { path }),
-        Verb::Unlink => Some(Call::Unlink { path }),
-        Verb::Rmdir => Some(Call::Rmdir { path }),
-        Verb::Stat => Some(Call::Stat { path }),
-        Verb::List => Some(Call::List { path }),
-        Verb::Where => Some(Call::Where { path }),
-        Verb::Write => None,
-        Verb::Fill => None,
-        Verb::Append => None,
-        Verb::Read => None,
-        Verb::Truncate => None,
-        Verb::Rename => None,
-        Verb::Exchange => None,
+    match scratch.path(word) {
+        Some(path) => with_path(verb, path),
+        None => None,
     }
+}
+
+/// The call of a verb and one path, where there is one.
+fn with_path<'a>(verb: Verb, path: &'a [u8]) -> Option<Call<'a>>
+    ensures { (word : List ℕ) → path_of word ≡ Some path.now → option_map op_of result ≡ call_with verb (word ∷ []) }
+{
+    let call = match verb {
+        Verb::Create => Call::Create { path },
+        Verb::Mkdir => Call::Mkdir { path },
+        Verb::Unlink => Call::Unlink { path },
+        Verb::Rmdir => Call::Rmdir { path },
+        Verb::Stat => Call::Stat { path },
+        Verb::List => Call::List { path },
+        Verb::Where => Call::Where { path },
+        _ => return None,
+    };
+    Some(call)
 }
 
 /// The calls of two words.
@@ -134,17 +132,7 @@ fn of_two_words<'a>(
         Verb::Append => append_of(path, word, scratch),
         Verb::Truncate => truncate_of(path, word, scratch),
         Verb::Rename => rename_of(path, word, scratch),
-        Verb::Create => None,
-        Verb::Mkdir => None,
-        Verb::Write => None,
-        Verb::Fill => None,
-        Verb::Read => None,
-        Verb::Unlink => None,
-        Verb::Rmdir => None,
-        Verb::Exchange => None,
-        Verb::Stat => None,
-        Verb::List => None,
-        Verb::Where => None,
+        _ => None,
     }
 }
 
@@ -193,18 +181,7 @@ fn of_three_words<'a>(
     match verb {
         Verb::Write => write_of(path, second, third, scratch),
         Verb::Read => read_of(path, second, third, scratch),
-        Verb::Create => None,
-        Verb::Mkdir => None,
-        Verb::Fill => None,
-        Verb::Append => None,
-        Verb::Truncate => None,
-        Verb::Unlink => None,
-        Verb::Rmdir => None,
-        Verb::Rename => None,
-        Verb::Exchange => None,
-        Verb::Stat => None,
-        Verb::List => None,
-        Verb::Where => None,
+        _ => None,
     }
 }
 
@@ -228,11 +205,13 @@ fn read_of<'a>(path: &[u8], off: &[u8], len: &[u8], scratch: &'a mut Scratch) ->
     requires { length path.now ≤ LINE_BYTES }
     ensures { option_map op_of result ≡ of_three read (path_of path.now) (number_of off.now) (number_of len.now) }
 {
-    match (scratch.path(path), number_of(off), number_of(len)) {
-        (Some(path), Some(off), Some(len)) => Some(Call::Read { path, off, len }),
-        (Some(_), Some(_), None) => None,
-        (Some(_), None, _) => None,
-        (None, _, _) => None,
+    let (off, len) = match (number_of(off), number_of(len)) {
+        (Some(off), Some(len)) => (off, len),
+        _ => return None,
+    };
+    match scratch.path(path) {
+        Some(path) => Some(Call::Read { path, off, len }),
+        None => None,
     }
 }
 
@@ -251,18 +230,7 @@ fn of_more_words<'a>(
     match verb {
         Verb::Fill => fill_of(path, second, third, rest, scratch),
         Verb::Exchange => exchange_of(path, second, third, rest, scratch),
-        Verb::Create => None,
-        Verb::Mkdir => None,
-        Verb::Write => None,
-        Verb::Append => None,
-        Verb::Read => None,
-        Verb::Truncate => None,
-        Verb::Unlink => None,
-        Verb::Rmdir => None,
-        Verb::Rename => None,
-        Verb::Stat => None,
-        Verb::List => None,
-        Verb::Where => None,
+        _ => None,
     }
 }
 

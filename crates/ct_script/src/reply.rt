@@ -44,14 +44,8 @@ pub fn put_reply<O: Sink>(out: &mut O, reply: &Shown<'_>) -> Result<(), WriteFau
     match *reply {
         Shown::Done => out.put(b"ok\n"),
         Shown::Data(bytes) => put_data(out, bytes),
-        Shown::File(size) => put_parts(
-            out,
-            &[b"file ", Buffer::new().format(size).as_bytes(), b"\n"],
-        ),
-        Shown::Dir(count) => put_parts(
-            out,
-            &[b"dir ", Buffer::new().format(count).as_bytes(), b"\n"],
-        ),
+        Shown::File(size) => put_number(out, b"file ", size),
+        Shown::Dir(count) => put_number(out, b"dir ", count),
         Shown::At { base, level } => put_place(out, base, level),
         Shown::Refused(refusal) => out.put(refusal_line(refusal)),
         Shown::BadLine => out.put(b"error line\n"),
@@ -100,6 +94,16 @@ fn put_parts<O: Sink>(out: &mut O, parts: &[&[u8]]) -> Result<(), WriteFault>
     Ok(())
 }
 
+/// Writes a line of a word and a number.
+fn put_number<O: Sink>(out: &mut O, word: &[u8], number: u64) -> Result<(), WriteFault>
+    ensures bytes { PutAppends (O.written out.old) (O.written out.new) result (line_of (word.now ++ decimal number)) }
+    ensures cause { HasCause (O.faults out.old) (O.faults out.new) result }
+{
+    let mut digits = Buffer::new();
+    put_parts(out, &[word, digits.format(number).as_bytes(), b"\n"])
+}
+
+/// Writes the line of where a file lies.
 fn put_place<O: Sink>(out: &mut O, base: u64, level: u32) -> Result<(), WriteFault>
     ensures bytes { PutAppends (O.written out.old) (O.written out.new) result (line_of (codes "at " ++ decimal base ++ 32 ∷ decimal level)) }
     ensures cause { HasCause (O.faults out.old) (O.faults out.new) result }

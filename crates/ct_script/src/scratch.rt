@@ -37,7 +37,8 @@ impl Scratch {
         if word.is_empty() {
             return None;
         }
-        Some(self.one(word))
+        let count = decode_onto(&mut self.bytes, word);
+        Some(&self.bytes[..count])
     }
 
     /// The paths that two words are.
@@ -51,7 +52,7 @@ impl Scratch {
         if second.is_empty() {
             return None;
         }
-        Some(self.two(first, second))
+        Some(decode_two(self.bytes.as_mut_slice(), first, second))
     }
 
     /// The path that a word is, and the bytes that digits stand for.
@@ -65,36 +66,11 @@ impl Scratch {
         if digits.is_empty() {
             return None;
         }
-        self.with_bytes(word, digits)
-    }
-
-    /// A word, percent-decoded.
-    fn one(&mut self, word: &[u8]) -> &[u8]
-        requires { length word.now ≤ LINE_BYTES }
-        ensures { result.now ≡ percent_decode word.now }
-    {
-        let count = decode_onto(&mut self.bytes, word);
-        &self.bytes[..count]
-    }
-
-    /// Two words, percent-decoded.
-    fn two(&mut self, first: &[u8], second: &[u8]) -> (&[u8], &[u8])
-        requires { length first.now + length second.now ≤ LINE_BYTES }
-        ensures first { result.0.now ≡ percent_decode first.now }
-        ensures second { result.1.now ≡ percent_decode second.now }
-    {
-        decode_two(self.bytes.as_mut_slice(), first, second)
-    }
-
-    /// A word, percent-decoded, and the bytes that digits stand for.
-    fn with_bytes(&mut self, word: &[u8], digits: &[u8]) -> Option<(&[u8], &[u8])>
-        requires { length word.now + length digits.now ≤ LINE_BYTES }
-        ensures { MatchOption result (if_ok (decode_of digits.now) ≡ None) (λ r. (r.0.now ≡ percent_decode word.now) × (if_ok (decode_of digits.now) ≡ Some r.1.now)) }
-    {
         decode_bytes(self.bytes.as_mut_slice(), word, digits)
     }
 }
 
+/// Two words, percent-decoded.
 fn decode_two<'a>(buffer: &'a mut [u8], first: &[u8], second: &[u8]) -> (&'a [u8], &'a [u8])
     requires { length first.now + length second.now ≤ length buffer.old }
     ensures first { result.0.now ≡ percent_decode first.now }
@@ -106,6 +82,7 @@ fn decode_two<'a>(buffer: &'a mut [u8], first: &[u8], second: &[u8]) -> (&'a [u8
     (&front[..one], &back[..two])
 }
 
+/// A word, percent-decoded, and the bytes that digits stand for.
 fn decode_bytes<'a>(
     buffer: &'a mut [u8],
     word: &[u8],

@@ -1,6 +1,6 @@
 // The verbs of a script.
 ghost use Rattle.std.specs.Prelude.{◌≡◌};
-ghost use Rattle.ct_script.specs.Grammar.{other_verb_of, verb_of};
+ghost use Rattle.ct_script.specs.Grammar.{verb_of, word_of};
 
 /// What a line begins with.
 #[derive(Clone, Copy)]
@@ -21,86 +21,54 @@ pub enum Verb {
     Where,
 }
 
-const CREATE: &[u8] = b"create";
-
-const MKDIR: &[u8] = b"mkdir";
-
-const WRITE: &[u8] = b"write";
-
-const FILL: &[u8] = b"fill";
-
-const APPEND: &[u8] = b"append";
-
-const READ: &[u8] = b"read";
-
-const TRUNCATE: &[u8] = b"truncate";
-
-const UNLINK: &[u8] = b"unlink";
-
-const RMDIR: &[u8] = b"rmdir";
-
-const RENAME: &[u8] = b"rename";
-
-const EXCHANGE: &[u8] = b"exchange";
-
-const STAT: &[u8] = b"stat";
-
-const LIST: &[u8] = b"list";
-
-const WHERE: &[u8] = b"where";
+/// The verbs in the order in which a word is compared with them.
+const VERBS: [Verb; 14] = [
+    Verb::Create,
+    Verb::Mkdir,
+    Verb::Write,
+    Verb::Fill,
+    Verb::Append,
+    Verb::Read,
+    Verb::Truncate,
+    Verb::Unlink,
+    Verb::Rmdir,
+    Verb::Rename,
+    Verb::Exchange,
+    Verb::Stat,
+    Verb::List,
+    Verb::Where,
+];
 
 /// The verb that a word is, in lower case.
 pub fn verb_of(word: &[u8]) -> Option<Verb>
     ensures { result ≡ verb_of word.now }
 {
-    if word == CREATE {
-        return Some(Verb::Create);
-    }
-    if word == MKDIR {
-        return Some(Verb::Mkdir);
-    }
-    if word == WRITE {
-        return Some(Verb::Write);
-    }
-    if word == FILL {
-        return Some(Verb::Fill);
-    }
-    if word == APPEND {
-        return Some(Verb::Append);
-    }
-    if word == READ {
-        return Some(Verb::Read);
-    }
-    if word == TRUNCATE {
-        return Some(Verb::Truncate);
-    }
-    other_verb_of(word)
-}
-
-/// The same of the verbs that name files and directories, or look at them.
-fn other_verb_of(word: &[u8]) -> Option<Verb>
-    ensures { result ≡ other_verb_of word.now }
-{
-    if word == UNLINK {
-        return Some(Verb::Unlink);
-    }
-    if word == RMDIR {
-        return Some(Verb::Rmdir);
-    }
-    if word == RENAME {
-        return Some(Verb::Rename);
-    }
-    if word == EXCHANGE {
-        return Some(Verb::Exchange);
-    }
-    if word == STAT {
-        return Some(Verb::Stat);
-    }
-    if word == LIST {
-        return Some(Verb::List);
-    }
-    if word == WHERE {
-        return Some(Verb::Where);
+    for verb in &VERBS {
+        if word == word_of(*verb) {
+            return Some(*verb);
+        }
     }
     None
+}
+
+/// The word that a verb is written as.
+fn word_of(verb: Verb) -> &'static [u8]
+    ensures { result.now ≡ word_of verb }
+{
+    match verb {
+        Verb::Create => b"create",
+        Verb::Mkdir => b"mkdir",
+        Verb::Write => b"write",
+        Verb::Fill => b"fill",
+        Verb::Append => b"append",
+        Verb::Read => b"read",
+        Verb::Truncate => b"truncate",
+        Verb::Unlink => b"unlink",
+        Verb::Rmdir => b"rmdir",
+        Verb::Rename => b"rename",
+        Verb::Exchange => b"exchange",
+        Verb::Stat => b"stat",
+        Verb::List => b"list",
+        Verb::Where => b"where",
+    }
 }

@@ -1,4 +1,4 @@
-use Rattle.std.proofs.Common.{◌≡◌, ◌⊎◌, refl, sym, subst, inl, inr}
+use Rattle.std.proofs.Common.{◌≡◌, ◌⊎◌, refl, sym, subst, inl, inr, ◌∙◌}
 use Rattle.ct_base.specs.View.{inode_count}
 use Rattle.ct_run.specs.Images.{Settles, Unmounted}
 use Rattle.ct_run.proofs.Ends.{not_made}
@@ -7,6 +7,8 @@ use Rattle.ct_run.proofs.Written.{wrote_at}
 use Rattle.ct_seen.proofs.Kept.{keeps_holds}
 use Rattle.ct_shell.proofs.Kept.{keeps_rests}
 use Rattle.ct_shell.specs.Moments.{moment, moment_in}
+use Rattle.ct_base.specs.Causes.{Rose}
+use Rattle.ct_run.proofs.Refusals.{none_first, refused_damage, refused_fault, refused_first, refused_status, served_rule, served_usage, unlike}
 use Rattle.ct_run.proofs.dumping.dump.Goals as goal
 
 pub dump_fs-requires : goal.dump_fs-requires
@@ -79,3 +81,67 @@ returns-clause-untouched g c = λ unbegun.
 
 pub returns-clause-refused : goal.returns-clause-refused
 returns-clause-refused g c = λ rule is. refused_rule (g.D.Pm.words c.args.dev) c.in-Err-mount.no_mount.why c.refused.result.status rule c.refused.ensures.status c.in-Err-mount.ensures.judged is
+
+pub returns-in-Err : goal.returns-in-Err
+returns-in-Err g c = record {
+  usage = λ is. unlike is refl;
+  read_fault = λ is. unlike is refl;
+  ends = λ served. absurd served;
+  unwritten = λ unbegun. refl {a = c.args.out.now};
+  untouched = λ unbegun. inl (refl {a = c.args.dev});
+  head = λ rule is low. refl {a = c.args.dev};
+  not_image = λ rule is. absurd (unlike is refl);
+  refused = λ rule is. inr (inl refl);
+  device_fault = λ is. absurd (unlike is refl);
+  write_fault = λ is. absurd (unlike is refl);
+  too_long = λ is. absurd (unlike is refl);
+  lands = λ is. absurd (unlike is refl);
+}
+
+pub returns-in-Ok-mount-clause-usage : goal.returns-in-Ok-mount-clause-usage
+returns-in-Ok-mount-clause-usage g c = served_usage c.dump_fs.ensures.served
+
+pub returns-in-Ok-mount-clause-unwritten : goal.returns-in-Ok-mount-clause-unwritten
+returns-in-Ok-mount-clause-unwritten g c = λ unbegun. absurd (unbegun c.dump_fs.ensures.served)
+
+pub returns-in-Ok-mount-clause-untouched : goal.returns-in-Ok-mount-clause-untouched
+returns-in-Ok-mount-clause-untouched g c = λ unbegun. absurd (unbegun c.dump_fs.ensures.served)
+
+pub returns-in-Ok-mount-clause-head : goal.returns-in-Ok-mount-clause-head
+returns-in-Ok-mount-clause-head g c = λ rule is low. absurd (served_rule c.dump_fs.ensures.served is)
+
+pub returns-in-Ok-mount-clause-not_image : goal.returns-in-Ok-mount-clause-not_image
+returns-in-Ok-mount-clause-not_image g c = λ rule is. absurd (served_rule c.dump_fs.ensures.served is)
+
+pub returns-in-Ok-mount-clause-refused : goal.returns-in-Ok-mount-clause-refused
+returns-in-Ok-mount-clause-refused g c = λ rule is. absurd (none_first (g.D.Pm.words c.args.dev) c.in-Ok-mount.ensures.judged rule is)
+
+pub returns-in-Ok-mount-clause-write_fault : goal.returns-in-Ok-mount-clause-write_fault
+returns-in-Ok-mount-clause-write_fault g c = c.dump_fs.ensures.write_fault
+
+pub returns-clause-usage : goal.returns-clause-usage
+returns-clause-usage g c = (refused_status c.in-Err-mount.no_mount.why c.refused.result.status c.refused.ensures.status).usage
+
+pub returns-clause-read_fault : goal.returns-clause-read_fault
+returns-clause-read_fault g c = (refused_status c.in-Err-mount.no_mount.why c.refused.result.status c.refused.ensures.status).read_fault
+
+pub returns-clause-unwritten : goal.returns-clause-unwritten
+returns-clause-unwritten g c = λ unbegun. refl {a = c.args.out.now}
+
+pub returns-clause-head : goal.returns-clause-head
+returns-clause-head g c = λ rule is low. c.refused.ensures.dev ∙ c.in-Err-mount.ensures.untouched rule (refused_damage c.in-Err-mount.no_mount.why c.refused.result.status c.refused.ensures.status rule is) low
+
+pub returns-clause-not_image : goal.returns-clause-not_image
+returns-clause-not_image g c = λ rule is. refused_first c.in-Err-mount.no_mount.why c.refused.result.status c.refused.ensures.status (g.D.Pm.words c.args.dev) rule c.in-Err-mount.ensures.judged is
+
+pub returns-clause-device_fault : goal.returns-clause-device_fault
+returns-clause-device_fault g c = λ is. subst (λ d. Rose (g.D.Pm.faults c.args.dev) (g.D.Pm.faults d)) (sym c.refused.ensures.dev) (c.in-Err-mount.ensures.cause (refused_fault c.in-Err-mount.no_mount.why c.refused.result.status c.refused.ensures.status is))
+
+pub returns-clause-write_fault : goal.returns-clause-write_fault
+returns-clause-write_fault g c = λ is. absurd ((refused_status c.in-Err-mount.no_mount.why c.refused.result.status c.refused.ensures.status).write_fault is)
+
+pub returns-clause-too_long : goal.returns-clause-too_long
+returns-clause-too_long g c = λ is. absurd ((refused_status c.in-Err-mount.no_mount.why c.refused.result.status c.refused.ensures.status).too_long is)
+
+pub returns-clause-lands : goal.returns-clause-lands
+returns-clause-lands g c = λ is. absurd ((refused_status c.in-Err-mount.no_mount.why c.refused.result.status c.refused.ensures.status).too_long is)

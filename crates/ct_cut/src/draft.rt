@@ -12,7 +12,7 @@ ghost use Rattle.ct_swap.specs.Swap.{LeaveTables};
 ghost use Rattle.ct_words.specs.Drafted.{MapsAlike};
 ghost use Rattle.ct_write.specs.Recorded.{IsBare};
 
-use ct_base::{Inode, MOST_INODES, Vaddr};
+use ct_base::{Inode, MOST_EXCHANGE_PAIRS, MOST_INODES, Vaddr};
 use ct_header::release;
 use ct_inode::get;
 use ct_level::AnyPart;
@@ -52,7 +52,7 @@ pub fn give_up<D: Pm>(draft: &mut Draft<D>, inode: u64) -> Result<(), PmFault>
     requires can { CanGiveUp (words_under draft.old) (inode_at (view (words_under draft.old)) inode) }
     requires maps { MapsAlike 1 (words_under draft.old) (drafted draft.old) }
     requires leave { LeaveTables (words_under draft.old) (pairs_of draft.old) }
-    requires room { count_of draft.old ≤ 8000 }
+    requires room { count_of draft.old ≤ MOST_EXCHANGE_PAIRS }
 
     // After the pairs the partition is free and empty, and all else is as after those before.
     ensures gives_up { OnOk result (GivesUp (drafted draft.old) (drafted draft.new) (part (inode_at (view (words_under draft.old)) inode))) }

@@ -12,7 +12,7 @@ ghost use Rattle.ct_record.specs.Seen.{Drafts, count_of, device_behind, drafted,
 ghost use Rattle.ct_write.specs.Recorded.{IsBare, SettlesOr};
 
 use crate::draft::give_up;
-use ct_base::{INODE_BYTES, MOST_INODES, NO_PARTITION, PAGE_BYTES};
+use ct_base::{INODE_BYTES, MOST_CALL_PAIRS, MOST_INODES, NO_PARTITION, PAGE_BYTES};
 use ct_inode::place;
 use ct_pm::{Pm, PmFault};
 use ct_record::{Broken, Draft, Idle, conclude};
@@ -30,7 +30,7 @@ fn draft_empty<D: Pm>(draft: &mut Draft<D>, inode: u64) -> Result<(), PmFault>
     ensures emptied { OnOk result (Emptied (words_under draft.old) (drafted draft.new) inode) }
     ensures bare { OnOk result ((w : ℕ) → Named (pairs_of draft.new) w → IsBare (words_under draft.old) w) }
     ensures some { OnOk result (0 < count_of draft.new) }
-    ensures few { OnOk result (count_of draft.new ≤ 5111) }
+    ensures few { OnOk result (count_of draft.new ≤ MOST_CALL_PAIRS) }
     ensures drafts { Drafts draft.old draft.new }
     ensures cause { HasCause (faults_under draft.old) (faults_under draft.new) result }
 {

@@ -19,7 +19,7 @@ ghost use Rattle.ct_tree.specs.Stands.{IsFile};
 
 use crate::prepare::{prepare_range, prepare_whole};
 use crate::record::empty_now;
-use ct_base::{PAGE_BYTES, STAGING_SLOT};
+use ct_base::{MOST_CALL_PAIRS, PAGE_BYTES, STAGING_SLOT};
 use ct_frames::Frames;
 use ct_inode::get;
 use ct_pm::Pm;
@@ -40,7 +40,7 @@ fn cut_inside<D: Pm>(dev: D, frames: &mut Frames, inode: u64, len: u64) -> Resul
     ensures ready { OnOk result (IsReady (D.words (device_behind result))) }
     ensures agrees { OnOk result (Agrees (D.words (device_behind result)) frames.new) }
     ensures settled { OnOk result (NothingPending (D.told (device_behind result))) }
-    ensures phase { Phase (IsStateOr (D.words dev) (λ after. IsShorter (D.words dev) after inode len)) 5111 (D.told dev) (D.told (device_behind result)) (D.words (device_behind result)) }
+    ensures phase { Phase (IsStateOr (D.words dev) (λ after. IsShorter (D.words dev) after inode len)) MOST_CALL_PAIRS (D.told dev) (D.told (device_behind result)) (D.words (device_behind result)) }
     ensures taken { OnOk result (length frames.old.free ≤ length frames.new.free + missing (D.words dev) (cut_wants (inode_at (view (D.words dev)) inode) len)) }
     ensures cause { HasCause (D.faults dev) (D.faults (device_behind result)) result }
 {
@@ -77,7 +77,7 @@ fn cut_whole<D: Pm>(dev: D, frames: &mut Frames, inode: u64) -> Result<D, Broken
     ensures ready { OnOk result (IsReady (D.words (device_behind result))) }
     ensures agrees { OnOk result (Agrees (D.words (device_behind result)) frames.new) }
     ensures settled { OnOk result (NothingPending (D.told (device_behind result))) }
-    ensures phase { Phase (IsStateOr (D.words dev) (λ after. IsEmptied (D.words dev) after inode)) 5111 (D.told dev) (D.told (device_behind result)) (D.words (device_behind result)) }
+    ensures phase { Phase (IsStateOr (D.words dev) (λ after. IsEmptied (D.words dev) after inode)) MOST_CALL_PAIRS (D.told dev) (D.told (device_behind result)) (D.words (device_behind result)) }
     ensures taken { OnOk result (length frames.old.free ≤ length frames.new.free + missing (D.words dev) (give_up_wants (inode_at (view (D.words dev)) inode))) }
     ensures cause { HasCause (D.faults dev) (D.faults (device_behind result)) result }
 {
@@ -120,7 +120,7 @@ pub fn cut<D: Pm>(dev: D, frames: &mut Frames, inode: u64, len: u64) -> Result<D
     ensures settled { OnOk result (NothingPending (D.told (device_behind result))) }
 
     // A crash at any moment leaves the state before the cut or after it, and so do the words as they read.
-    ensures phase { Phase (IsCutOrNot (D.words dev) inode len) 5111 (D.told dev) (D.told (device_behind result)) (D.words (device_behind result)) }
+    ensures phase { Phase (IsCutOrNot (D.words dev) inode len) MOST_CALL_PAIRS (D.told dev) (D.told (device_behind result)) (D.words (device_behind result)) }
 
     // No more pages are taken than were missing.
     ensures taken { OnOk result (length frames.old.free ≤ length frames.new.free + missing (D.words dev) (less_wants (inode_at (view (D.words dev)) inode) len)) }

@@ -6,6 +6,7 @@ use Rattle.ct_base.specs.Inode.{Partition}
 use Rattle.ct_base.specs.Settled.{HasFewPairs, IsShut, Named, open_pairs}
 use Rattle.ct_base.specs.State.{SameState}
 use Rattle.ct_base.specs.Walk.{page_at}
+use Rattle.ct_base.specs.declared.limits.TheConstants.{MOST_GROWTH_PAIRS}
 use Rattle.ct_record.specs.Record.{SettlesTo}
 use Rattle.ct_grow.specs.Drafted.{Moves}
 use Rattle.ct_grow.specs.Grown.{IsReady, Promoted}
@@ -24,7 +25,7 @@ IsSpare img w = (q : ℕ) → PARTITION_SLOT * SLOT_PAGES ≤ q → page_at img 
 -- the record is lawful and short, names no word of a page from root slot 10 on, and the image settles to the words before the move
 -- or after it
 pub record SettlesMoved (words : List ℕ) (i : ℕ) (f : Inode) (p : Partition) (image : List ℕ) : Type 0 where
-  pub few : HasFewPairs 150 image
+  pub few : HasFewPairs MOST_GROWTH_PAIRS image
   pub names : (w : ℕ) → Named (open_pairs image) w → IsSpare words w
   pub to : SettlesTo words image ⊎ AfterMove words i f p image
 

@@ -17,7 +17,7 @@ ghost use Rattle.ct_grow.specs.Moments.{IsSpare};
 ghost use Rattle.ct_base.specs.Settled.{Named};
 
 use crate::parts::part_at;
-use ct_base::{Inode, NO_PARTITION, PAGE_BYTES, Vaddr};
+use ct_base::{Inode, MOST_GROWTH_PAIRS, NO_PARTITION, PAGE_BYTES, Vaddr};
 use ct_header::{release, take};
 use ct_inode::place;
 use ct_level::AnyPart;
@@ -109,7 +109,7 @@ fn move_pages<D: Pm>(
     ensures exchanged { OnOk result (Exchanged (drafted draft.old) (drafted draft.new) (old.base / PAGE_BYTES) (base / PAGE_BYTES) (pages_of old)) }
     ensures spare { OnOk result ((w : ℕ) → Named (pairs_of draft.new) w → Named (pairs_of draft.old) w ⊎ IsSpare (words_under draft.old) w) }
     ensures more { OnOk result (count_of draft.old ≤ count_of draft.new) }
-    ensures count { OnOk result (count_of draft.new ≤ 150) }
+    ensures count { OnOk result (count_of draft.new ≤ MOST_GROWTH_PAIRS) }
     ensures drafts { Drafts draft.old draft.new }
     ensures cause { HasCause (faults_under draft.old) (faults_under draft.new) result }
 {
@@ -142,7 +142,7 @@ pub fn move_object<D: Pm>(
     ensures moves { OnOk result (Moves (words_under draft.old) (drafted draft.new) number old (record { base = base; level = level })) }
     ensures spare { OnOk result ((w : ℕ) → Named (pairs_of draft.new) w → IsSpare (words_under draft.old) w) }
     ensures some { OnOk result (0 < count_of draft.new) }
-    ensures few { OnOk result (count_of draft.new ≤ 150) }
+    ensures few { OnOk result (count_of draft.new ≤ MOST_GROWTH_PAIRS) }
     ensures drafts { Drafts draft.old draft.new }
     ensures cause { HasCause (faults_under draft.old) (faults_under draft.new) result }
 {

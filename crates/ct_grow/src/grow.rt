@@ -19,7 +19,7 @@ ghost use Rattle.ct_grow.specs.Grown.{CanGrow, CellsMoved, IsReady, Promoted};
 use crate::draft::move_object;
 use crate::parts::first_base;
 use crate::wants::growth_wants;
-use ct_base::{Inode, Vaddr};
+use ct_base::{Inode, MOST_GROWTH_PAIRS, Vaddr};
 use ct_frames::Frames;
 use ct_inode::get;
 use ct_pm::Pm;
@@ -70,7 +70,7 @@ pub fn promote<D: Pm>(dev: D, frames: &mut Frames, inode: u64, level: u32) -> Re
     // A crash at any moment settles to the state before the growth or after it, leaves a lawful record of at most 150 pairs, none
     // of which names a word of a live file's page, and no step stores on such a page; and once the growth is done, the state after
     // it is that of the words as they read.
-    ensures phase { Phase (IsBeforeOrAfter (D.words dev) inode (next_part (view (D.words dev)) (inode_count (D.words dev)) level)) 150 (D.told dev) (D.told (device_behind result)) (D.words (device_behind result)) }
+    ensures phase { Phase (IsBeforeOrAfter (D.words dev) inode (next_part (view (D.words dev)) (inode_count (D.words dev)) level)) MOST_GROWTH_PAIRS (D.told dev) (D.told (device_behind result)) (D.words (device_behind result)) }
     ensures reads_after { OnOk result (LeavesOnly (D.told dev) (D.told (device_behind result))
         (λ image. SameState (D.words dev) image ⊎ SameState (D.words (device_behind result)) image)) }
 

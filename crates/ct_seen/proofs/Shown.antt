@@ -1,9 +1,8 @@
 -- What the calls of a mount answer, as looks at its tree.
-use Rattle.std.proofs.Common.{◌≡◌, ◌≢◌, ℕ, zero, suc, ◌+◌, ◌-◌, ◌<◌, ◌≤◌, ◌++◌, Bool, true, false, List, [], ◌∷◌, Option, Result, Some, None, Ok, Err, length, min, take, drop, refl, sym, ap, ◌∙◌, subst, inl, inr, arith, rules}
+use Rattle.std.proofs.Common.{◌≡◌, ℕ, zero, suc, ◌+◌, ◌-◌, ◌<◌, ◌≤◌, ◌++◌, Bool, true, false, List, [], ◌∷◌, Option, Result, Some, None, Ok, Err, length, min, take, drop, refl, sym, ap, ◌∙◌, subst, inl, inr, arith, rules}
 use Rattle.std.specs.Prelude.{◌&&◌, ◌==◌, if◌then◌else◌, IsOkAnd, IsSomeAnd, is_none, is_some, slice_index}
 use Rattle.std.specs.Coded.{Coded-set, coded_bool, coded_list, coded_option, coded_ℕ}
 use Rattle.std.specs.List.{list_all}
-use Rattle.std.specs.Option.{option_map}
 use Rattle.std.specs.declared.cmp.Ordering.{Ordering}
 use Rattle.std.specs.declared.cmp.Ordering.TheVariants.{Less, Equal, Greater}
 use Rattle.std.proofs.Math.Logic.{∥∥₁_elim}
@@ -20,13 +19,12 @@ use Rattle.ct_call.specs.declared.mount.State.{State}
 use Rattle.ct_dump.specs.Dumped.{are_zeros}
 use Rattle.ct_dump.specs.Looks.{IsFile, IsNode, LeadsTo, entries_above, entries_at, first_name, least_after, size_of}
 use Rattle.ct_look.specs.Content.{IsRead}
-use Rattle.ct_look.specs.Holes.{AreNext, AreZeros, IsNextData}
-use Rattle.ct_look.specs.Looks.{IsLook, is_later, is_less, next_name, stat_answer}
-use Rattle.ct_look.specs.declared.seen.Stat.{Stat}
+use Rattle.ct_look.specs.Holes.{AreNext, AreZeros}
+use Rattle.ct_look.specs.Looks.{IsLook, is_less, next_name, stat_answer}
 use Rattle.ct_look.specs.declared.seen.Stat.TheVariants.{File as a_file, Dir as a_dir}
 use Rattle.ct_state.proofs.Puts.{cmp_equal}
 use Rattle.ct_tree.specs.Checks.{at, bad_path, first_of, no_dir, no_file, no_node, refuse_if}
-use Rattle.ct_tree.specs.Content.{bytes_in, range}
+use Rattle.ct_tree.specs.Content.{range}
 use Rattle.ct_tree.specs.Entries.{by_order}
 use Rattle.ct_tree.specs.Ordered.{AreEntries, IsBelow}
 use Rattle.ct_tree.specs.Resolve.{IsDir, entries_in, node_in}

@@ -1,6 +1,7 @@
 -- What is seen of a device at a moment, and what a crash may leave while items are answered.
 use Rattle.std.specs.Prelude.{◌≡◌, ◌⊎◌, ℕ, List, [], ◌∷◌, Some, None, IfSome}
 use Rattle.std.specs.declared.option.Option.{Option}
+use Rattle.ct_base.specs.declared.limits.TheConstants.{MOST_CALL_PAIRS}
 use Rattle.ct_call.specs.Calls.{Holds, most_pairs as call_pairs}
 use Rattle.ct_call.specs.Placed.{Places}
 use Rattle.ct_call.specs.declared.mount.State.{State}
@@ -32,7 +33,7 @@ moment_in {bound = bound} (Some (Dead failed)) = moment (bound.told failed.dev) 
 
 -- the most pairs of a long record while an item is answered
 abbrev pub most_pairs : Item → ℕ
-most_pairs bad = 5111
+most_pairs bad = MOST_CALL_PAIRS
 most_pairs (call op) = call_pairs op
 
 -- The device holds the tree, and has c inodes; the words are those of its history. They, and whatever a crash may leave now, land

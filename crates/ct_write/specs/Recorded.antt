@@ -5,6 +5,7 @@ use Rattle.ct_base.specs.Exchange.{Exchanged, HasTables}
 use Rattle.ct_base.specs.Pieces.{pieces}
 use Rattle.ct_base.specs.Settled.{HasFewPairs, IsShut, Named, open_pairs}
 use Rattle.ct_base.specs.Walk.{word, byte, page_at, AreTables}
+use Rattle.ct_base.specs.declared.limits.TheConstants.{MOST_CALL_PAIRS}
 use Rattle.ct_words.specs.Shown.{shown_word}
 use Rattle.ct_record.specs.Record.{SettlesTo}
 
@@ -53,7 +54,7 @@ pub record SettlesAfter (Done : List ℕ → Type 0) (image : List ℕ) : Type 0
 -- The record is lawful and has few pairs, the open ones name bare words, and the image settles to the words without it or
 -- with all of it.
 pub record SettlesOr (words : List ℕ) (Done : List ℕ → Type 0) (image : List ℕ) : Type 0 where
-  pub few : HasFewPairs 5111 image
+  pub few : HasFewPairs MOST_CALL_PAIRS image
   pub names : (w : ℕ) → Named (open_pairs image) w → IsBare words w
   pub to : SettlesTo words image ⊎ SettlesAfter Done image
 

@@ -14,6 +14,7 @@ ghost use Rattle.ct_tree.specs.Stands.{IsFile};
 ghost use Rattle.ct_write.specs.Lengthened.{CanLengthen, IsLengthened, IsLengthenedOrNot};
 
 use crate::record::put_size;
+use ct_base::MOST_CALL_PAIRS;
 use ct_inode::get;
 use ct_pm::Pm;
 use ct_record::{Broken, Draft, Idle, conclude};
@@ -37,7 +38,7 @@ pub fn lengthen<D: Pm>(dev: D, inode: u64, len: u64) -> Result<D, Broken<D>>
     ensures settled { OnOk result (NothingPending (D.told (device_behind result))) }
 
     // A crash at any moment leaves the state before or after, and so do the words as they read.
-    ensures phase { Phase (IsLengthenedOrNot (D.words dev) inode len) 5111 (D.told dev) (D.told (device_behind result)) (D.words (device_behind result)) }
+    ensures phase { Phase (IsLengthenedOrNot (D.words dev) inode len) MOST_CALL_PAIRS (D.told dev) (D.told (device_behind result)) (D.words (device_behind result)) }
     ensures cause { HasCause (D.faults dev) (D.faults (device_behind result)) result }
 {
     let was = get(&dev, inode).size;

@@ -9,7 +9,7 @@ ghost use Rattle.ct_record.specs.Seen.{Drafts, count_of, device_behind, drafted,
 ghost use Rattle.ct_words.specs.Drafted.{MapsAlike};
 ghost use Rattle.ct_write.specs.Recorded.{CanRecord, IsBare, Recorded, SettlesRecorded, Sized};
 
-use ct_base::{INODE_BYTES, MOST_INODES, MOST_LONG_PAIRS, PAGE_BYTES};
+use ct_base::{INODE_BYTES, MOST_CALL_PAIRS, MOST_INODES, MOST_LONG_PAIRS, PAGE_BYTES};
 use ct_inode::place;
 use ct_pm::{Pm, PmFault};
 use ct_record::{Broken, Draft, Idle, conclude};
@@ -57,7 +57,7 @@ fn draft_write<D: Pm>(
     ensures recorded { OnOk result (Recorded (words_under draft.old) (drafted draft.new) inode a b n size) }
     ensures bare { OnOk result ((w : ℕ) → Named (pairs_of draft.new) w → IsBare (words_under draft.old) w) }
     ensures some { OnOk result (0 < count_of draft.new) }
-    ensures few { OnOk result (count_of draft.new ≤ 5111) }
+    ensures few { OnOk result (count_of draft.new ≤ MOST_CALL_PAIRS) }
     ensures drafts { Drafts draft.old draft.new }
     ensures cause { HasCause (faults_under draft.old) (faults_under draft.new) result }
 {

@@ -21,7 +21,7 @@ use crate::data::{Data, given_of, len_of};
 use crate::prepare::prepare;
 use crate::record::write_now;
 use crate::spot::{page_of, staged_page, touched};
-use ct_base::STAGING_SLOT;
+use ct_base::{MOST_CALL_PAIRS, STAGING_SLOT};
 use ct_frames::Frames;
 use ct_inode::get;
 use ct_pm::Pm;
@@ -51,7 +51,7 @@ fn write_given<D: Pm>(
     ensures ready { OnOk result (IsReady (D.words (device_behind result))) }
     ensures agrees { OnOk result (Agrees (D.words (device_behind result)) frames.new) }
     ensures settled { OnOk result (NothingPending (D.told (device_behind result))) }
-    ensures phase { Phase (IsBeforeOrAfter (D.words dev) inode off len given.now) 5111 (D.told dev) (D.told (device_behind result)) (D.words (device_behind result)) }
+    ensures phase { Phase (IsBeforeOrAfter (D.words dev) inode off len given.now) MOST_CALL_PAIRS (D.told dev) (D.told (device_behind result)) (D.words (device_behind result)) }
     ensures taken { OnOk result (length frames.old.free ≤ length frames.new.free + missing (D.words dev) (write_wants (inode_at (view (D.words dev)) inode) off len (part (inode_at (view (D.words dev)) inode)))) }
     ensures cause { HasCause (D.faults dev) (D.faults (device_behind result)) result }
 {
@@ -111,7 +111,7 @@ pub fn commit_write<D: Pm>(
     ensures settled { OnOk result (NothingPending (D.told (device_behind result))) }
 
     // A crash at any moment leaves the state before the write or after it, and so do the words as they read.
-    ensures phase { Phase (IsBeforeOrAfter (D.words dev) inode off (data_len what.entry) (data_given what.entry)) 5111 (D.told dev) (D.told (device_behind result)) (D.words (device_behind result)) }
+    ensures phase { Phase (IsBeforeOrAfter (D.words dev) inode off (data_len what.entry) (data_given what.entry)) MOST_CALL_PAIRS (D.told dev) (D.told (device_behind result)) (D.words (device_behind result)) }
 
     // No more pages are taken than were missing.
     ensures taken { OnOk result (length frames.old.free ≤ length frames.new.free + missing (D.words dev) (write_wants (inode_at (view (D.words dev)) inode) off (data_len what.entry) (part (inode_at (view (D.words dev)) inode)))) }

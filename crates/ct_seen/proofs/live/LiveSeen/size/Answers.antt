@@ -1,10 +1,8 @@
-use Rattle.std.proofs.Common.{◌≡◌, ◌∙◌, Result, Ok, Err, sym, ap}
+use Rattle.std.proofs.Common.{◌≡◌, ◌∙◌, Result, Ok, sym, ap}
 use Rattle.ct_call.specs.declared.mount.FsError.{FsError}
-use Rattle.ct_look.specs.Looks.{stat_answer}
 use Rattle.ct_look.specs.declared.seen.Stat.{Stat}
 use Rattle.ct_look.specs.declared.seen.Stat.TheVariants.{File as a_file, Dir as a_dir}
 use Rattle.ct_tree.specs.Checks.{at}
-use Rattle.ct_tree.specs.Step.{told}
 use Rattle.ct_seen.proofs.Shown.{never_prop, of_held, size_prop, stat_told, told_dir, told_file, told_none}
 use Rattle.ct_seen.proofs.live.LiveSeen.size.Goals as goal
 

@@ -3,8 +3,6 @@
 
 mod answers;
 mod rows;
-#[cfg(test)]
-mod tests;
 mod volume;
 
 pub use answers::answer;

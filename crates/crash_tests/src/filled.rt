@@ -14,6 +14,7 @@ use ct_pm::RamPm;
 use ct_tree::Refusal;
 use pm_fuse::FusePm;
 use std::alloc::Global;
+use std::ops::Range;
 use std::test::Fail;
 
 // A new file system, where there is memory.
@@ -30,19 +31,25 @@ fn new_fs(alloc: Global, pages: u64, inodes: u64) -> Option<Fs<RamPm>>
     }
 }
 
+// Makes a file in the root for each letter.
+fn create_letters(fs: &mut Fs<RamPm>, letters: Range<u8>) -> Result<(), FsError> {
+    for letter in letters {
+        fs.create(&[b'/', letter])?;
+    }
+    Ok(())
+}
+
 // A page has 16 slots, so the 17th entry lets the root grow to level 1. The lowest range of that level holds the root's old
 // partition, so it moves to the second, 32,768 bytes after the base of root slot 10.
 #[test]
 fn the_root_grows_for_its_17th_entry(rt: HostRuntime) {
     let mut fs = new_fs(rt.alloc(), 256, 64).expect(&rt, "a new file system");
-    for letter in b'a'..b'r' {
-        assert_eq!(rt; fs.create(&[b'/', letter]), Ok(()));
-    }
-    assert_eq!(rt; fs.stat(b"/"), Ok(Stat::Dir { count: 17 }));
+    let made = create_letters(&mut fs, b'a'..b'r');
+    let told = fs.stat(b"/");
     let dev = fs.unmount();
-    assert_eq!(rt; inode_word(&dev, 1, 1), 17 * ENTRY_BYTES);
-    assert_eq!(rt; inode_word(&dev, 1, 2), 5_497_558_171_648);
-    assert_eq!(rt; inode_word(&dev, 1, 3), 1);
+    assert_eq!(rt; (made, told), (Ok(()), Ok(Stat::Dir { count: 17 })));
+    let words = [1, 2, 3].map(|at| inode_word(&dev, 1, at));
+    assert_eq!(rt; words, [17 * ENTRY_BYTES, 5_497_558_171_648, 1]);
 }
 
 // The root has the first of 16 inodes. A partition is free as long as there are fewer than 502 objects, so that a refusal
@@ -52,14 +59,14 @@ fn inodes_run_out(rt: HostRuntime) {
     let alloc = rt.alloc();
     let mut fs = new_fs(alloc, 256, 16).expect(&rt, "a new file system");
     let mut twin = new_fs(alloc, 256, 16).expect(&rt, "another");
-    for letter in b'a'..b'p' {
-        assert_eq!(rt; fs.create(&[b'/', letter]), Ok(()));
-        assert_eq!(rt; twin.create(&[b'/', letter]), Ok(()));
-    }
-    let refused = Err(FsError::Refused(Refusal::NoInode));
-    assert_eq!(rt; fs.create(b"/p"), refused);
-    assert_eq!(rt; fs.mkdir(b"/p"), refused);
+    let made = (
+        create_letters(&mut fs, b'a'..b'p'),
+        create_letters(&mut twin, b'a'..b'p'),
+    );
+    let refused = (fs.create(b"/p"), fs.mkdir(b"/p"));
     let (dev, other) = (fs.unmount(), twin.unmount());
+    let no_inode = Err(FsError::Refused(Refusal::NoInode));
+    assert_eq!(rt; (made, refused), ((Ok(()), Ok(())), (no_inode, no_inode)));
     assert!(rt; read_alike(&dev, &other));
 }
 
@@ -100,11 +107,11 @@ fn pages_run_out(rt: HostRuntime) {
     let alloc = rt.alloc();
     let mut fs = new_fs(alloc, 256, 1024).expect(&rt, "a new file system");
     let mut twin = new_fs(alloc, 256, 1024).expect(&rt, "another");
-    assert_eq!(rt; fill(&mut fs), Ok(()));
-    assert_eq!(rt; fill(&mut twin), Ok(()));
-    let refusal = Refusal::NoPages { free: 1, need: 2 };
-    assert_eq!(rt; fs.create(b"/d164/a"), Err(FsError::Refused(refusal)));
+    let made = (fill(&mut fs), fill(&mut twin));
+    let refused = fs.create(b"/d164/a");
     let (dev, other) = (fs.unmount(), twin.unmount());
+    let no_pages = Err(FsError::Refused(Refusal::NoPages { free: 1, need: 2 }));
+    assert_eq!(rt; (made, refused), ((Ok(()), Ok(())), no_pages));
     assert!(rt; read_alike(&dev, &other));
 }
 
@@ -136,10 +143,11 @@ fn with_file(alloc: Global) -> Option<RamPm>
 fn slot_11_is_the_lowest_free_one(rt: HostRuntime) {
     let alloc = rt.alloc();
     let mut fs = new_fs(alloc, 4096, 64).expect(&rt, "a new file system");
-    assert_eq!(rt; fs.create(b"/a"), Ok(()));
-    assert_eq!(rt; peek_word(&fs, LEVEL_9), Some(0x3030_3030_3030_3030));
-    assert_eq!(rt; peek_word(&fs, LEVEL_9 + 8), Some(0x29_3030));
+    let made = fs.create(b"/a");
+    let words = (peek_word(&fs, LEVEL_9), peek_word(&fs, LEVEL_9 + 8));
     let _dev = fs.unmount();
+    let slots = (Some(0x3030_3030_3030_3030), Some(0x29_3030));
+    assert_eq!(rt; (made, words), (Ok(()), slots));
     let dev = with_file(alloc).expect(&rt, "a device");
     assert_eq!(rt; lowest_free(dev, 9), Some(11 * SLOT_SPAN));
 }
@@ -154,9 +162,8 @@ fn a_mount_is_dead_after_a_fault(rt: HostRuntime) -> Result<(), Fail> {
     let dev = FusePm::new(RamPm::new(alloc, 256)?, FORMAT_STEPS + 10);
     let kind = Vaddr::new(INODE_BYTES).ok_or("an address")?;
     let mut fs = format(alloc, dev, 16).ok().expect(&rt, "a new file system");
-    assert_eq!(rt; fs.create(b"/a"), Err(FsError::Fault));
-    assert_eq!(rt; fs.stat(b"/a"), Err(FsError::Dead));
-    assert_eq!(rt; fs.peek(kind), 2);
+    let answers = (fs.create(b"/a"), fs.stat(b"/a"), fs.peek(kind));
     let _dev = fs.unmount();
+    assert_eq!(rt; answers, (Err(FsError::Fault), Err(FsError::Dead), 2));
     Ok(())
 }

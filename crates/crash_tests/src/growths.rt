@@ -256,35 +256,61 @@ impl Look for Change {
     }
 }
 
-// How many calls apart the stops are while pages are made, before the record. Growth to level 0 makes 27 pages by 15,660
-// calls, and stops after each 11th of these; growth to another level makes one page or none, and stops after each call.
-fn stride(calls: Calls) -> u64
-    ensures { 1 ≤ result }
-{
-    if calls.pages > 1000 { 11 } else { 1 }
+// Whether growth is stopped after so many calls. While pages are made, before the record, growth to level 0 makes 27 pages by
+// 15,660 calls, and stops after each 31st of these; growth to another level makes one page or none, and stops after each call.
+fn is_tried(calls: Calls, passed: u64) -> bool {
+    passed >= calls.pages || calls.pages <= 1000 || passed % 31 == 0
+}
+
+// A growth that may stop: where it begins, how many calls it has, and where it shows.
+#[derive(Drop)]
+struct Watched {
+    start: Start,
+    level: u32,
+    calls: Calls,
+    change: Change,
+}
+
+impl Watched {
+    fn of(alloc: Global, level: u32) -> Result<Watched, Fail> {
+        let start = grown_below(alloc, level)?;
+        let (dev, _) = run(alloc, &start, level, ALL)?;
+        let calls = calls_of(&dev);
+        let change = Change::of(alloc, start.words(), &dev.into_words())?;
+        Ok(Watched {
+            start,
+            level,
+            calls,
+            change,
+        })
+    }
+
+    fn gate(&self) -> Gate {
+        Gate {
+            stored: self.calls.stored,
+            fenced: self.calls.fenced,
+        }
+    }
+
+    // The device that stops after so many calls. It fails where the growth is done before its last call, or not by it.
+    fn stopped(&self, alloc: Global, passed: u64) -> Result<TracePm, Fail> {
+        let (dev, done) = run(alloc, &self.start, self.level, passed)?;
+        if done == (passed == self.calls.all) {
+            Ok(dev)
+        } else {
+            Err(Fail::from("a growth that is done"))
+        }
+    }
 }
 
 // Growth from each level to the next that stops after each call of its record, and before that after each so many calls.
 fn stop_growth(rt: &impl Abort, alloc: Global, level: u32) -> Result<(), Fail> {
-    let start = grown_below(alloc, level)?;
-    let (dev, _) = run(alloc, &start, level, ALL)?;
-    let calls = calls_of(&dev);
-    let change = Change::of(alloc, start.words(), &dev.into_words())?;
-    let gate = Gate {
-        stored: calls.stored,
-        fenced: calls.fenced,
-    };
-    for passed in 0..=calls.all {
-        if passed < calls.pages && passed % stride(calls) != 0 {
-            continue;
+    let watched = Watched::of(alloc, level)?;
+    for passed in 0..=watched.calls.all {
+        if is_tried(watched.calls, passed) {
+            let dev = watched.stopped(alloc, passed)?;
+            check_images(rt, alloc, &watched.change, watched.gate(), &dev, passed)?;
         }
-        let (dev, done) = run(alloc, &start, level, passed)?;
-        assert_eq!(rt;
-            done,
-            passed == calls.all,
-            "level {level} after {passed} calls"
-        );
-        check_images(rt, alloc, &change, gate, &dev, passed)?;
     }
     Ok(())
 }
@@ -309,20 +335,22 @@ fn has_moved(alloc: Global, old: &[u64], new: &[u64]) -> Result<bool, Fail> {
     Ok(true)
 }
 
+// What growth to a level leaves: the level of the inode, how many words of tables it exchanged, and whether each page moved.
+fn grown(alloc: Global, start: &Start, level: u32) -> Result<(u64, u64, bool), Fail> {
+    let (dev, _) = run(alloc, start, level, ALL)?;
+    let new = dev.crash(alloc, &[], Vec::new(alloc))?.into_words();
+    let moved = has_moved(alloc, start.words(), &new)?;
+    let exchanged = exchanged(&dev, start.words(), &new);
+    Ok((inode_word(&new, 3), exchanged, moved))
+}
+
 #[test]
 fn pages_move_and_few_words_are_exchanged(rt: HostRuntime) -> Result<(), Fail> {
     let alloc = rt.alloc();
     for (level, words) in EXCHANGED.iter().enumerate() {
-        let level = level as u32;
-        let start = grown_below(alloc, level)?;
-        let (dev, done) = run(alloc, &start, level, ALL)?;
-        assert!(rt; done, "level {level}");
-        let left = dev.crash(alloc, &[], Vec::new(alloc))?;
-        let new = left.into_words();
-        let found = exchanged(&dev, start.words(), &new);
-        assert_eq!(rt; found, *words, "level {level}");
-        assert_eq!(rt; inode_word(&new, 3), level as u64);
-        assert!(rt; has_moved(alloc, start.words(), &new)?, "level {level}");
+        let start = grown_below(alloc, level as u32)?;
+        let found = grown(alloc, &start, level as u32)?;
+        assert_eq!(rt; found, (level as u64, *words, true));
     }
     Ok(())
 }

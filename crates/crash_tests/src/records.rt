@@ -6,7 +6,7 @@ use crate::images::{Gate, Look, Outcome, check_images};
 use ct_base::PAGE_WORDS;
 use pm_fuse::FusePm;
 use pm_trace::TracePm;
-use record_stops::{Steps, put_pairs, steps_since};
+use record_stops::{put_pairs, steps_since};
 use std::alloc::Global;
 use std::process::Abort;
 use std::test::Fail;
@@ -65,6 +65,20 @@ impl Look for Run {
     }
 }
 
+// The device after a record of so many pairs that stops after so many calls, and fails at some of them. It is an error where
+// the record is done before its last call, or not by it.
+fn stopped(alloc: Global, run: Run, pairs: u64, fails: &[u64], passed: u64) -> Result<TracePm, Fail>
+    requires { pairs ≤ 5 }
+{
+    let fuse = FusePm::new(device(alloc, fails.to_vec(alloc)?)?, passed);
+    let (fuse, done) = put_pairs(fuse, pairs);
+    if done == (passed == run.calls) {
+        Ok(fuse.into_inner())
+    } else {
+        Err(Fail::from("a record that is done"))
+    }
+}
+
 // Runs a record of so many pairs, on a device that fails at some of its calls, and stops after each of these.
 fn stop_after_each(
     rt: &impl Abort,
@@ -80,14 +94,8 @@ fn stop_after_each(
         fenced: run.gate.saturating_add(2),
     };
     for passed in 0..run.calls.saturating_add(1) {
-        let fuse = FusePm::new(device(alloc, fails.to_vec(alloc)?)?, passed);
-        let (fuse, done) = put_pairs(fuse, pairs);
-        assert_eq!(rt;
-            done,
-            passed == run.calls,
-            "after {passed} calls of {run:?}"
-        );
-        check_images(rt, alloc, &run, gate, &fuse.into_inner(), passed)?;
+        let dev = stopped(alloc, run, pairs, fails, passed)?;
+        check_images(rt, alloc, &run, gate, &dev, passed)?;
     }
     Ok(())
 }
@@ -158,13 +166,9 @@ fn a_short_record_makes_three_fences(rt: HostRuntime) -> Result<(), Fail> {
         (5, 16 + 7, 10, 4),
     ] {
         let (dev, done) = put_pairs(device(alloc, Vec::new(alloc))?, pairs);
-        let wanted = Steps {
-            stores,
-            flushes,
-            fences,
-        };
-        assert!(rt; done, "{pairs} pairs");
-        assert_eq!(rt; steps_since(&dev, 0), wanted, "{pairs} pairs");
+        let steps = steps_since(&dev, 0);
+        let found = (steps.stores, steps.flushes, steps.fences);
+        assert_eq!(rt; (done, found), (true, (stores, flushes, fences)));
     }
     Ok(())
 }

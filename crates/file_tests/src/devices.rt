@@ -1,43 +1,58 @@
 // What reaches a file, what comes back from it, and which files cannot be attached.
 use crate::files::make;
-use ct_pm::Pm;
+use ct_base::PAGE_WORDS;
+use ct_pm::{Pm, PmFault};
 use pm_file::{AttachFault, FilePm};
 use std::fs;
 use std::test::Fail;
 
-// Two pages, and a rest of 100 bytes.
+// Words of a file of two pages and a rest of 100 bytes.
+const NAME: &str = "file_tests_words.img";
+
+const STORED: [(u64, u64); 4] = [
+    (0, 7),
+    (9, 8),
+    (1016, u64::MAX),
+    (1023, 0x0102_0304_0506_0708),
+];
+
+// Stores the words, and has two of the three lines reach the file: not that of word 9.
+fn store<D: Pm>(dev: &mut D) -> Result<(), PmFault> {
+    for (word, value) in STORED {
+        if word / PAGE_WORDS < dev.pages() {
+            dev.store(word, value)?;
+        }
+    }
+    for line in [0, 127] {
+        if line / 64 < dev.pages() {
+            dev.flush(line)?;
+        }
+    }
+    dev.fence()
+}
+
+// A word of a device, 0 past its end.
+fn word<D: Pm>(dev: &D, at: u64) -> u64 {
+    if at / PAGE_WORDS < dev.pages() {
+        dev.load(at)
+    } else {
+        0
+    }
+}
+
 #[test]
 fn flushed_words_come_back(rt: HostRuntime) -> Result<(), Fail> {
-    let name = "file_tests_words.img";
-    make(&rt, name, 8292)?;
-    let mut dev = FilePm::attach(&rt, rt.alloc(), name)?;
-    for (word, value) in [
-        (0, 7),
-        (9, 8),
-        (1016, u64::MAX),
-        (1023, 0x0102_0304_0506_0708),
-    ] {
-        assert_eq!(rt; dev.pages(), 2);
-        dev.store(word, value)?;
-    }
-    assert_eq!(rt; dev.pages(), 2);
-    dev.flush(0)?;
-    dev.flush(127)?;
-    dev.fence()?;
-    let again = FilePm::attach(&rt, rt.alloc(), name)?;
-    assert_eq!(rt; again.pages(), 2);
-    for (word, value) in [
-        (0, 7),
-        (9, 0),
-        (1016, u64::MAX),
-        (1023, 0x0102_0304_0506_0708),
-    ] {
-        assert_eq!(rt; again.load(word), value, "word {word}");
-    }
-    let bytes = fs::read(&rt, name)?;
-    assert_eq!(rt; bytes.len(), 8292);
-    assert_eq!(rt; bytes[8184], 8);
-    fs::remove_file(&rt, name)?;
+    make(&rt, NAME, 8292)?;
+    store(&mut FilePm::attach(&rt, rt.alloc(), NAME)?)?;
+    let dev = FilePm::attach(&rt, rt.alloc(), NAME)?;
+    let found = STORED.map(|(at, _)| word(&dev, at));
+    assert_eq!(rt; found, [7, 0, u64::MAX, 0x0102_0304_0506_0708]);
+    let bytes = fs::read(&rt, NAME)?;
+    assert_eq!(rt;
+        (dev.pages(), bytes.len(), bytes.get(8184)),
+        (2, 8292, Some(&8))
+    );
+    fs::remove_file(&rt, NAME)?;
     Ok(())
 }
 

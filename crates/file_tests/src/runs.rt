@@ -3,9 +3,20 @@ use crate::files::{HEAD, look, make};
 use ct_base::{LEAST_PAGES, MOST_PAGES, PAGE_BYTES};
 use ct_run::Status;
 use pm_file::FilePm;
-use script_runs::ran;
-use std::fs;
+use script_runs::{Left, ran};
+use std::fs::{self, File};
 use std::test::Fail;
+
+// What a run over a file leaves.
+fn left_by(
+    rt: &HostRuntime,
+    name: &str,
+    line: &str,
+    script: &str,
+) -> Result<Left<FilePm<File>>, Fail> {
+    let dev = FilePm::attach(rt, rt.alloc(), name)?;
+    Ok(ran(rt.alloc(), line, dev, script.as_bytes())?)
+}
 
 // A rest shorter than a page stays behind the pages.
 #[test]
@@ -18,14 +29,19 @@ fn a_file_keeps_what_runs_leave(rt: HostRuntime) -> Result<(), Fail> {
         ("run x", "create /a\n", "ok\n"),
         ("run x", "stat /a\nlist /\n", "file 0\nnames a\n"),
     ] {
-        let dev = FilePm::attach(&rt, rt.alloc(), name)?;
-        let done = ran(rt.alloc(), line, dev, script.as_bytes())?;
-        assert_eq!(rt; done.status, Status::Done, "{line}");
-        assert_eq!(rt; done.out.bytes(), replies.as_bytes(), "{script}");
+        let left = left_by(&rt, name, line, script)?;
+        let found = (left.status, left.out.bytes());
+        assert_eq!(rt; found, (Status::Done, replies.as_bytes()));
     }
     assert_eq!(rt; look(&rt, name)?, (len, *b"RTCTFS01"));
     fs::remove_file(&rt, name)?;
     Ok(())
+}
+
+// The status of a run over a file, and the length and the head of the file after it.
+fn told(rt: &HostRuntime, name: &str, line: &str) -> Result<(Status, u8, (u64, [u8; 8])), Fail> {
+    let left = left_by(rt, name, line, "create /a\n")?;
+    Ok((left.status, left.status.code(), look(rt, name)?))
 }
 
 // No page, a page too few, and a page too many.
@@ -38,12 +54,9 @@ fn files_of_other_sizes_are_no_images(rt: HostRuntime) -> Result<(), Fail> {
         PAGE_BYTES * (MOST_PAGES + 1),
     ] {
         make(&rt, name, len)?;
+        let want = (Status::NotImage(0), 3, (len, HEAD));
         for line in ["format x 16", "run x"] {
-            let dev = FilePm::attach(&rt, rt.alloc(), name)?;
-            let done = ran(rt.alloc(), line, dev, b"create /a\n")?;
-            let told = (done.status, done.status.code());
-            assert_eq!(rt; told, (Status::NotImage(0), 3), "{line} of {len} bytes");
-            assert_eq!(rt; look(&rt, name)?, (len, HEAD), "{line} of {len} bytes");
+            assert_eq!(rt; told(&rt, name, line)?, want);
         }
         fs::remove_file(&rt, name)?;
     }

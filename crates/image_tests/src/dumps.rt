@@ -56,13 +56,17 @@ const ROWS: [(&str, &str); 6] = [
     ("create /a\nunlink /a\nmkdir /d\nrmdir /d\n", ""),
 ];
 
+// The dump of what a script leaves.
+fn dump_of(rt: &impl Abort, alloc: Global, script: &[u8]) -> Result<Vec<u8>, Fail> {
+    let dev = played(rt, alloc, formatted(alloc, 256)?, script)?;
+    dumped_twice(rt, alloc, dev, formatted(alloc, 256)?)
+}
+
 #[test]
 fn a_dump_makes_an_equal_image(rt: HostRuntime) -> Result<(), Fail> {
-    let alloc = rt.alloc();
     for (script, want) in ROWS {
-        let dev = played(&rt, alloc, formatted(alloc, 256)?, script.as_bytes())?;
-        let text = dumped_twice(&rt, alloc, dev, formatted(alloc, 256)?)?;
-        assert_eq!(rt; text.as_slice(), want.as_bytes(), "{script}");
+        let text = dump_of(&rt, rt.alloc(), script.as_bytes())?;
+        assert_eq!(rt; text.as_slice(), want.as_bytes());
     }
     Ok(())
 }
@@ -70,13 +74,10 @@ fn a_dump_makes_an_equal_image(rt: HostRuntime) -> Result<(), Fail> {
 // The last byte of the longest file stands at the end of the line of its page: nothing is said of the pages before.
 #[test]
 fn a_long_file_is_dumped_by_its_pages(rt: HostRuntime) -> Result<(), Fail> {
-    let alloc = rt.alloc();
     let script = b"create /a\nwrite /a 549755813887 41\n";
-    let dev = played(&rt, alloc, formatted(alloc, 256)?, script)?;
-    let text = dumped_twice(&rt, alloc, dev, formatted(alloc, 256)?)?;
+    let text = dump_of(&rt, rt.alloc(), script)?;
     let head = b"create /a\ntruncate /a 549755813888\nwrite /a 549755809792 00";
-    assert!(rt; text.as_slice().starts_with(head.as_slice()));
-    assert!(rt; text.as_slice().ends_with(b"0041\n".as_slice()));
-    assert_eq!(rt; text.len(), head.len() + 8190 + 1);
+    let ends = text.as_slice().starts_with(head) && text.as_slice().ends_with(b"0041\n");
+    assert_eq!(rt; (ends, text.len()), (true, head.len() + 8190 + 1));
     Ok(())
 }

@@ -4,19 +4,23 @@ use ct_base::NoMemory;
 use ct_pm::RamPm;
 use ct_run::Status;
 use pm_fuse::FusePm;
-use script_runs::{formatted, ran};
+use script_runs::{Left, formatted, ran};
 use std::alloc::Global;
 use std::process::Abort;
 use std::test::Fail;
+
+/// Checks how a run ended: its status, and what it wrote.
+pub fn check<D>(rt: &impl Abort, left: &Left<D>, status: Status, text: &[u8]) {
+    assert_eq!(rt; (left.status, left.out.bytes()), (status, text));
+}
 
 // Runs scripts one after another over an image of 256 pages, and looks at the replies to each.
 fn check_runs(rt: &impl Abort, alloc: Global, rows: &[(&str, &str)]) -> Result<(), Fail> {
     let mut dev = formatted(alloc, 256)?;
     for (script, replies) in rows {
-        let done = ran(alloc, "run x", dev, script.as_bytes())?;
-        assert_eq!(rt; done.status, Status::Done);
-        assert_eq!(rt; done.out.bytes(), replies.as_bytes(), "{script}");
-        dev = done.dev;
+        let left = ran(alloc, "run x", dev, script.as_bytes())?;
+        check(rt, &left, Status::Done, replies.as_bytes());
+        dev = left.dev;
     }
     Ok(())
 }
@@ -55,14 +59,20 @@ fn told(alloc: Global, line: &str, dev: RamPm) -> Result<(Status, u8, usize), No
 #[test]
 fn the_first_rule_that_fails_is_told(rt: HostRuntime) -> Result<(), Fail> {
     let alloc = rt.alloc();
-    for (first, then, rule) in ROWS {
+    for (row, (first, then, rule)) in ROWS.iter().enumerate() {
         let dev = image(alloc, first, then).ok_or("no memory")?;
-        let want = (Status::NotImage(rule), 3, 0);
-        assert_eq!(rt; told(alloc, "run x", dev)?, want, "{first:?} {then:?}");
+        let found = told(alloc, "run x", dev)?;
+        assert_eq!(rt; found, (Status::NotImage(*rule), 3, 0), "row {row}");
     }
+    Ok(())
+}
+
+#[test]
+fn zeros_are_no_image(rt: HostRuntime) -> Result<(), Fail> {
+    let alloc = rt.alloc();
     for (pages, rule) in [(255, 0), (256, 1)] {
-        let want = (Status::NotImage(rule), 3, 0);
-        assert_eq!(rt; told(alloc, "run x", RamPm::new(alloc, pages)?)?, want);
+        let found = told(alloc, "run x", RamPm::new(alloc, pages)?)?;
+        assert_eq!(rt; found, (Status::NotImage(rule), 3, 0));
     }
     Ok(())
 }
@@ -74,10 +84,18 @@ fn a_format_reads_and_writes_nothing(rt: HostRuntime) -> Result<(), Fail> {
         (256, (Status::Done, 0, 0)),
         (255, (Status::NotImage(0), 3, 0)),
     ] {
-        let dev = RamPm::new(alloc, pages)?;
-        assert_eq!(rt; told(alloc, "format x 16", dev)?, want, "{pages} pages");
+        let found = told(alloc, "format x 16", RamPm::new(alloc, pages)?)?;
+        assert_eq!(rt; found, want);
     }
     Ok(())
+}
+
+// The image after a run whose device fails after so many of its calls.
+fn after_a_fault(rt: &impl Abort, alloc: Global, passes: u64) -> Result<RamPm, Fail> {
+    let dev = FusePm::new(formatted(alloc, 256)?, passes);
+    let left = ran(alloc, "run x", dev, b"create /a\n")?;
+    check(rt, &left, Status::DeviceFault, b"");
+    Ok(left.dev.into_inner())
 }
 
 // A mount of an image at rest makes fewer calls of its device than the second number.
@@ -85,12 +103,8 @@ fn a_format_reads_and_writes_nothing(rt: HostRuntime) -> Result<(), Fail> {
 fn a_device_that_fails_ends_a_run_over_an_image(rt: HostRuntime) -> Result<(), Fail> {
     let alloc = rt.alloc();
     for passes in [0, 40] {
-        let dev = FusePm::new(formatted(alloc, 256)?, passes);
-        let done = ran(alloc, "run x", dev, b"create /a\n")?;
-        assert_eq!(rt; (done.status, done.status.code()), (Status::DeviceFault, 4));
-        assert_eq!(rt; done.out.bytes(), b"".as_slice());
-        let again = ran(alloc, "run x", done.dev.into_inner(), b"")?;
-        assert_eq!(rt; again.status, Status::Done);
+        let left = ran(alloc, "run x", after_a_fault(&rt, alloc, passes)?, b"")?;
+        check(&rt, &left, Status::Done, b"");
     }
     Ok(())
 }

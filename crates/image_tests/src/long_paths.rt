@@ -60,16 +60,19 @@ fn fresh(rt: &impl Abort, alloc: Global) -> Result<RamPm, Fail> {
 // The directories take 16 lines, of a verb, a path and two bytes more; the path of the file is 112 bytes longer than the last.
 const DIRECTORIES: usize = 16 * 7 + 249 * 136;
 
+// An image with a file whose path is as long as that of the last directory and so many bytes more.
+fn deep_image(rt: &impl Abort, alloc: Global, last: usize) -> Result<RamPm, Fail> {
+    played(rt, alloc, fresh(rt, alloc)?, &deep(alloc, last)?)
+}
+
 #[test]
 fn a_path_of_4096_bytes_is_dumped_and_no_longer_one(rt: HostRuntime) -> Result<(), Fail> {
     let alloc = rt.alloc();
-    let dev = played(&rt, alloc, fresh(&rt, alloc)?, &deep(alloc, 111)?)?;
-    let text = dumped_twice(&rt, alloc, dev, fresh(&rt, alloc)?)?;
-    assert_eq!(rt; text.len(), DIRECTORIES + 8 + 4096);
-    let dev = played(&rt, alloc, fresh(&rt, alloc)?, &deep(alloc, 112)?)?;
-    let done = ran(alloc, "dump x", dev, b"")?;
-    assert_eq!(rt; (done.status, done.status.code()), (Status::TooLong, 8));
-    assert_eq!(rt; done.out.bytes().len(), DIRECTORIES);
-    assert!(rt; text.as_slice().starts_with(done.out.bytes()));
+    let whole = dumped_twice(&rt, alloc, deep_image(&rt, alloc, 111)?, fresh(&rt, alloc)?)?;
+    assert_eq!(rt; whole.len(), DIRECTORIES + 8 + 4096);
+    let cut = ran(alloc, "dump x", deep_image(&rt, alloc, 112)?, b"")?;
+    let found = (cut.status, cut.out.bytes().len());
+    assert_eq!(rt; found, (Status::TooLong, DIRECTORIES));
+    assert!(rt; whole.as_slice().starts_with(cut.out.bytes()));
     Ok(())
 }

@@ -1,16 +1,17 @@
 // The summaries of calls that a number gives: of runs, and of a plain tree that makes the same calls.
+use crate::images::check;
 use ct_base::{NameBuf, NoMemory};
 use ct_gen::Gen;
 use ct_plain::PlainTree;
 use ct_pm::RamPm;
 use ct_run::Status;
 use ct_tree::{Call, Reply};
-use script_runs::ran;
+use script_runs::{Left, ran};
 use std::alloc::Global;
 use std::test::Fail;
 
 // How many replies there were of each kind.
-#[derive(Drop)]
+#[derive(Clone, Copy)]
 struct Kinds {
     done: u64,
     data: u64,
@@ -64,16 +65,19 @@ fn files(tree: &mut PlainTree) -> Result<(u64, u64), NoMemory> {
     Ok((count, bytes))
 }
 
-// The summary of a plain tree.
-fn summary(alloc: Global, number: u64, count: u64) -> Result<String, Fail> {
+// What the calls of a number come to on a plain tree: those that were done, that gave data and that were refused, the files
+// that are there then, and their bytes.
+fn outcome(alloc: Global, number: u64, count: u64) -> Result<[u64; 5], NoMemory> {
     let mut tree = PlainTree::new(alloc)?;
-    let Kinds {
-        done,
-        data,
-        refused,
-    } = replies(&mut tree, number, count)?;
+    let kinds = replies(&mut tree, number, count)?;
     let (files, bytes) = files(&mut tree)?;
+    Ok([kinds.done, kinds.data, kinds.refused, files, bytes])
+}
+
+// The summary of a plain tree. The files are made before the calls that are drawn.
+fn summary(alloc: Global, number: u64, count: u64) -> Result<String, Fail> {
     let calls = count.saturating_add(16);
+    let [done, data, refused, files, bytes] = outcome(alloc, number, count)?;
     Ok(format!(in alloc;
         "calls {calls} done {done} data {data} refused {refused} files {files} bytes {bytes}\n"
     )?)
@@ -99,16 +103,18 @@ fn a_plain_tree_has_these_summaries(rt: HostRuntime) -> Result<(), Fail> {
     Ok(())
 }
 
-// The input is not read.
+// A run of the calls of a number. The input is not read.
+fn generated(alloc: Global, number: u64, count: u64) -> Result<Left<RamPm>, Fail> {
+    let line = format!(in alloc; "gen {number} {count}")?;
+    let dev = RamPm::new(alloc, 4096)?;
+    Ok(ran(alloc, line.as_str(), dev, b"create /never\n")?)
+}
+
 #[test]
 fn runs_have_these_summaries(rt: HostRuntime) -> Result<(), Fail> {
-    let alloc = rt.alloc();
     for (number, count, want) in ROWS {
-        let line = format!(in alloc; "gen {number} {count}")?;
-        let dev = RamPm::new(alloc, 4096)?;
-        let done = ran(alloc, line.as_str(), dev, b"create /never\n")?;
-        assert_eq!(rt; done.status, Status::Done, "{line}");
-        assert_eq!(rt; done.out.bytes(), want.as_bytes(), "{line}");
+        let left = generated(rt.alloc(), number, count)?;
+        check(&rt, &left, Status::Done, want.as_bytes());
     }
     Ok(())
 }

@@ -2,13 +2,13 @@
 ghost use Rattle.std.specs.Prelude.{◌≡◌, ◌≤◌, IfOk};
 
 use crate::script::{ENDLESS, blank};
-use ct_fs::{Fs, FsError, format, mount};
+use ct_fs::{Fs, FsError, format};
 use ct_pm::{Pm, RamPm, Step};
-use ct_tree::Refusal;
+use ct_tree::{Call, Refusal};
 use pm_fuse::FusePm;
 use pm_trace::TracePm;
+use script_runs::change;
 use std::alloc::Global;
-use std::process::Abort;
 use std::test::Fail;
 
 // How many fences a device has seen.
@@ -22,47 +22,62 @@ fn fences(dev: &TracePm) -> u64 {
     count
 }
 
-// A file of three pages, and so many of the calls after it.
-fn play<D: Pm>(fs: &mut Fs<D>, calls: u64) -> Result<(), FsError> {
-    fs.create(b"/a")?;
-    fs.fill(b"/a", 0, 12_000, 65)?;
-    if 1 <= calls {
-        fs.fill(b"/a", 4096, 4096, 66)?;
-    }
-    if 2 <= calls {
-        fs.append(b"/a", b"twenty bytes to add.")?;
-    }
-    if 3 <= calls {
-        fs.truncate(b"/a", 5000)?;
-    }
-    if 4 <= calls {
-        fs.truncate(b"/a", 0)?;
-    }
-    Ok(())
-}
+const FILE: &[u8] = b"/a";
 
-// How many fences there are after so many of the calls.
-fn fences_after(alloc: Global, calls: u64) -> Result<u64, Fail> {
+// A file of three pages, and then a page in place, an append within a page, a cut within one, and a cut to nothing.
+const CALLS: [Call<'static>; 6] = [
+    Call::Create { path: FILE },
+    Call::Fill {
+        path: FILE,
+        off: 0,
+        len: 12_000,
+        byte: 65,
+    },
+    Call::Fill {
+        path: FILE,
+        off: 4096,
+        len: 4096,
+        byte: 66,
+    },
+    Call::Append {
+        path: FILE,
+        bytes: b"twenty bytes to add.",
+    },
+    Call::Truncate {
+        path: FILE,
+        len: 5000,
+    },
+    Call::Truncate { path: FILE, len: 0 },
+];
+
+// How many fences there are after so many of the calls, none of which is refused.
+fn fences_after(alloc: Global, calls: usize) -> Result<u64, Fail> {
     let mut fs = match format(alloc, FusePm::new(blank(alloc)?, ENDLESS), 16) {
         Ok(fs) => fs,
         Err(_) => return Err(Fail::from("format")),
     };
-    let played = play(&mut fs, calls);
+    let mut done: usize = 0;
+    for call in CALLS.iter().take(calls) {
+        if change(&mut fs, call) == Some(Ok(())) {
+            done = done.saturating_add(1);
+        }
+    }
     let dev = fs.unmount().into_inner();
-    match played {
-        Ok(()) => Ok(fences(&dev)),
-        Err(_) => Err(Fail::from("a call")),
+    if done == calls {
+        Ok(fences(&dev))
+    } else {
+        Err(Fail::from("a call"))
     }
 }
 
-// A page in place, an append within a page, a cut within one, and a cut to nothing, where the tables are there.
+// The tables are there.
 #[test]
 fn a_call_makes_few_fences(rt: HostRuntime) -> Result<(), Fail> {
     let alloc = rt.alloc();
-    let mut before = fences_after(alloc, 0)?;
-    for (calls, want) in [(1, 5), (2, 5), (3, 6), (4, 6)] {
+    let mut before = fences_after(alloc, 2)?;
+    for (calls, want) in [(3, 5), (4, 5), (5, 6), (6, 6)] {
         let now = fences_after(alloc, calls)?;
-        assert_eq!(rt; now.saturating_sub(before), want, "call {calls}");
+        assert_eq!(rt; now.saturating_sub(before), want);
         before = now;
     }
     Ok(())
@@ -131,37 +146,5 @@ fn partitions_run_out(rt: HostRuntime) -> Result<(), Fail> {
     let _dev = fs.unmount();
     let none = Err(FsError::Refused(Refusal::NoPartition { level: 9 }));
     assert_eq!(rt; (filled, longer, written), (none, none, none));
-    Ok(())
-}
-
-// A formatted device, and the calls that a mount of it makes.
-fn mount_calls(alloc: Global) -> Result<(RamPm, u64), Fail> {
-    let mut dev = match format(alloc, RamPm::new(alloc, 256)?, 16) {
-        Ok(fs) => fs.unmount(),
-        Err(_) => return Err(Fail::from("format")),
-    };
-    for passes in 0..1000u64 {
-        match mount(alloc, FusePm::new(dev, passes)) {
-            Ok(fs) => return Ok((fs.unmount().into_inner(), passes)),
-            Err(no_mount) => dev = no_mount.dev.into_inner(),
-        }
-    }
-    Err(Fail::from("mount"))
-}
-
-// The device fails after ten calls of a create.
-#[test]
-fn a_mount_is_dead_after_a_fault(rt: HostRuntime) -> Result<(), Fail> {
-    let alloc = rt.alloc();
-    let (dev, passes) = mount_calls(alloc)?;
-    let mut fs = match mount(alloc, FusePm::new(dev, passes.saturating_add(10))) {
-        Ok(fs) => fs,
-        Err(_) => return Err(Fail::from("mount")),
-    };
-    let created = fs.create(b"/a");
-    let told = fs.stat(b"/a");
-    let _dev = fs.unmount();
-    assert_eq!(rt; created, Err(FsError::Fault));
-    assert_eq!(rt; told, Err(FsError::Dead));
     Ok(())
 }

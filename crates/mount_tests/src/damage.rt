@@ -1,5 +1,6 @@
 // Images written as words, and what a mount answers to them.
-use check_tests::{EMPTY, ROWS, TWO_FILES, image};
+use check_tests::{EMPTY, ROWS, TWO_FILES, answer as checked, image};
+use ct_check::CheckFault;
 use ct_fs::{Fs, Why, mount};
 use ct_pm::RamPm;
 use std::alloc::Global;
@@ -23,21 +24,23 @@ fn answer(alloc: Global, first: &[(u64, u64)], then: &[(u64, u64)]) -> Result<u6
     }
 }
 
+// The rules are checked by themselves, and by a mount.
 #[test]
 fn the_first_rule_that_fails_is_told(rt: HostRuntime) {
-    for (first, then, rule) in ROWS {
-        assert_eq!(rt;
-            answer(rt.alloc(), first, then),
-            Err(Why::Damage(rule)),
-            "{first:?} {then:?}"
-        );
+    let alloc = rt.alloc();
+    for (row, (first, then, rule)) in ROWS.iter().enumerate() {
+        let found = (checked(alloc, first, then), answer(alloc, first, then));
+        let want = (Err(CheckFault::Damage(*rule)), Err(Why::Damage(*rule)));
+        assert_eq!(rt; found, want, "row {row}");
     }
 }
 
 #[test]
 fn the_pages_of_an_image_are_counted(rt: HostRuntime) {
+    let alloc = rt.alloc();
     for (first, pages) in [(EMPTY, 214), (TWO_FILES, 210)] {
-        assert_eq!(rt; answer(rt.alloc(), first, EMPTY), Ok(pages));
+        let found = (checked(alloc, first, EMPTY), answer(alloc, first, EMPTY));
+        assert_eq!(rt; found, (Ok(pages), Ok(pages)));
     }
 }
 
@@ -55,6 +58,6 @@ fn a_record_is_applied_before_rule_8(rt: HostRuntime) {
         // what is staged counts for nothing
         (&[(16898, 7)][..], &[(16905, 139265)][..], Ok(214)),
     ] {
-        assert_eq!(rt; answer(rt.alloc(), first, then), want, "{first:?} {then:?}");
+        assert_eq!(rt; answer(rt.alloc(), first, then), want);
     }
 }

@@ -76,33 +76,53 @@ fn fences(alloc: Global, dev: &TracePm, most: usize) -> Result<Vec<u64>, Fail> {
     Ok(found)
 }
 
+// Checks a run whose device fails at a call.
+fn check_call(rt: &impl Abort, alloc: Global, call: u64) -> Result<(), Fail> {
+    let dev = formatted(alloc, vec![in alloc; call; 1]?)?;
+    let left = ran(alloc, "run x", dev, SCRIPT.as_bytes())?;
+    assert_eq!(rt; left.status, Status::DeviceFault, "call {call}");
+    check_left(rt, alloc, &left)
+}
+
+// The first eight fences of a run of which no call fails.
+fn first_fences(rt: &impl Abort, alloc: Global) -> Result<Vec<u64>, Fail> {
+    let dev = formatted(alloc, Vec::new(alloc))?;
+    let left = ran(alloc, "run x", dev, SCRIPT.as_bytes())?;
+    let found = (left.status, left.out.bytes());
+    assert_eq!(rt; found, (Status::Done, b"ok\nok\nok\nok\n".as_slice()));
+    fences(alloc, &left.dev, 8)
+}
+
 #[test]
 fn each_fence_of_a_run_may_fail(rt: HostRuntime) -> Result<(), Fail> {
     let alloc = rt.alloc();
-    let dev = formatted(alloc, Vec::new(alloc))?;
-    let whole = ran(alloc, "run x", dev, SCRIPT.as_bytes())?;
-    assert_eq!(rt; whole.status, Status::Done);
-    assert_eq!(rt; whole.out.bytes(), b"ok\nok\nok\nok\n".as_slice());
-    for at in fences(alloc, &whole.dev, 8)? {
-        let dev = formatted(alloc, vec![in alloc; at; 1]?)?;
-        let done = ran(alloc, "run x", dev, SCRIPT.as_bytes())?;
-        assert_eq!(rt; done.status, Status::DeviceFault, "call {at}");
-        check_left(&rt, alloc, &done)?;
+    for call in first_fences(&rt, alloc)? {
+        check_call(&rt, alloc, call)?;
     }
     Ok(())
+}
+
+// Checks a run of which so many reads and writes, each with this number, fail.
+fn check_ends(
+    rt: &impl Abort,
+    alloc: Global,
+    call: u64,
+    (reads, writes): (usize, usize),
+    status: Status,
+) -> Result<(), Fail> {
+    let dev = formatted(alloc, Vec::new(alloc))?;
+    let reads = vec![in alloc; call; reads]?;
+    let left = served(alloc, WRITES, dev, reads, vec![in alloc; call; writes]?)?;
+    assert_eq!(rt; left.status, status, "call {call}");
+    check_left(rt, alloc, &left)
 }
 
 #[test]
 fn each_read_and_each_write_of_a_run_may_fail(rt: HostRuntime) -> Result<(), Fail> {
     let alloc = rt.alloc();
     for call in 0..3u64 {
-        for (reads, writes, want) in [(1, 0, Status::ReadFault), (0, 1, Status::WriteFault)] {
-            let dev = formatted(alloc, Vec::new(alloc))?;
-            let reads = vec![in alloc; call; reads]?;
-            let done = served(alloc, WRITES, dev, reads, vec![in alloc; call; writes]?)?;
-            assert_eq!(rt; done.status, want, "call {call}");
-            check_left(&rt, alloc, &done)?;
-        }
+        check_ends(&rt, alloc, call, (1, 0), Status::ReadFault)?;
+        check_ends(&rt, alloc, call, (0, 1), Status::WriteFault)?;
     }
     Ok(())
 }

@@ -64,6 +64,17 @@ fn holds(alloc: Global, left: TracePm) -> bool
     }
 }
 
+// Mounts three images of what a rename leaves that stops after so many calls.
+fn check_stop(rt: &impl Abort, alloc: Global, passes: u64) -> Result<(), Fail> {
+    let dev = ran(alloc, true, passes)?;
+    for image in IMAGES {
+        let choice = choices(alloc, image, LINES)?;
+        let left = dev.crash(alloc, &choice, Vec::new(alloc))?;
+        assert!(rt; holds(alloc, left), "{image:?} after {passes} calls");
+    }
+    Ok(())
+}
+
 #[test]
 fn each_call_of_a_rename_may_be_the_last(rt: HostRuntime) -> Result<(), Fail> {
     let alloc = rt.alloc();
@@ -71,12 +82,7 @@ fn each_call_of_a_rename_may_be_the_last(rt: HostRuntime) -> Result<(), Fail> {
     let end = ran(alloc, true, ENDLESS)?.clock();
     assert!(rt; begin < end);
     for passes in begin..end.saturating_add(1) {
-        let dev = ran(alloc, true, passes)?;
-        for image in IMAGES {
-            let choice = choices(alloc, image, LINES)?;
-            let left = dev.crash(alloc, &choice, Vec::new(alloc))?;
-            assert!(rt; holds(alloc, left), "{image:?} after {passes} calls");
-        }
+        check_stop(&rt, alloc, passes)?;
     }
     Ok(())
 }

@@ -102,12 +102,22 @@ fn stop_each<L: Look>(
     let steps = recovery_steps(alloc, floors(alloc, &left)?);
     assert!(rt; least < steps, "{steps} steps");
     for passes in 0..steps {
-        for image in IMAGES {
-            assert!(rt;
-                is_mounted_through(alloc, &left, passes, image, look)?,
-                "{image:?} after {passes} calls"
-            );
-        }
+        check_stop(rt, alloc, &left, passes, look)?;
+    }
+    Ok(())
+}
+
+// Stops the recovery after so many calls.
+fn check_stop<L: Look>(
+    rt: &impl Abort,
+    alloc: Global,
+    left: &TracePm,
+    passes: u64,
+    look: &L,
+) -> Result<(), Fail> {
+    for image in IMAGES {
+        let found = is_mounted_through(alloc, left, passes, image, look)?;
+        assert!(rt; found, "{image:?} after {passes} calls");
     }
     Ok(())
 }
@@ -144,23 +154,21 @@ fn blank(alloc: Global) -> Result<Stopping, Fail>
 }
 
 // Where the file has a partition, and no byte.
-fn start_of(alloc: Global) -> Result<Option<Start>, Fail> {
-    let Some(resting) = with_file(alloc, blank(alloc)?) else {
-        return Ok(None);
-    };
+fn start_of(alloc: Global) -> Result<Start, Fail> {
+    let resting = with_file(alloc, blank(alloc)?).ok_or("a file")?;
     match resting.grow_file(0) {
-        Growth::Done(grown) => Ok(Start::of(grown)),
-        Growth::Stopped(_) | Growth::Refused => Ok(None),
+        Growth::Done(grown) => Ok(Start::of(grown).ok_or("a start")?),
+        Growth::Stopped(_) | Growth::Refused => Err(Fail::from("growth")),
     }
 }
 
 // The device after a write of two bytes, as far as so many calls go.
-fn written(alloc: Global, start: &Start, passes: u64) -> Option<TracePm> {
-    let holder = Holder::of(start.device(alloc, 10_000, passes)?);
+fn written(alloc: Global, start: &Start, passes: u64) -> Result<TracePm, Fail> {
+    let holder = Holder::of(start.device(alloc, 10_000, passes).ok_or("a device")?);
     match holder.write(0, Data::Bytes(&[0x68, 0x69])) {
-        Wrote::Done(holder) => Some(holder.into_dev().into_inner()),
-        Wrote::Stopped(dev) => Some(dev.into_inner()),
-        Wrote::Refused => None,
+        Wrote::Done(holder) => Ok(holder.into_dev().into_inner()),
+        Wrote::Stopped(dev) => Ok(dev.into_inner()),
+        Wrote::Refused => Err(Fail::from("no room")),
     }
 }
 
@@ -176,18 +184,9 @@ impl Look for Bytes {
 #[test]
 fn a_recovery_of_a_write_stops(rt: HostRuntime) -> Result<(), Fail> {
     let alloc = rt.alloc();
-    let Some(start) = start_of(alloc)? else {
-        assert!(rt; false, "a file");
-        return Ok(());
-    };
-    let Some(whole) = written(alloc, &start, u64::MAX) else {
-        assert!(rt; false, "no room");
-        return Ok(());
-    };
-    let Some(dev) = written(alloc, &start, gate_since(&whole, 0)) else {
-        assert!(rt; false, "no room");
-        return Ok(());
-    };
+    let start = start_of(alloc)?;
+    let whole = written(alloc, &start, u64::MAX)?;
+    let dev = written(alloc, &start, gate_since(&whole, 0))?;
     assert!(rt; dev.clock() < whole.clock());
     assert!(rt; is_mounted_through(alloc, &whole, u64::MAX, Image::Reads, &Bytes)?);
     stop_each(&rt, alloc, &dev, 10, &Bytes)

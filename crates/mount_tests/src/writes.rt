@@ -4,13 +4,15 @@ ghost use Rattle.ct_pm.specs.Images.{IsSettled};
 ghost use Rattle.pm_trace.specs.Meaning.{history};
 
 use crate::script::{ENDLESS, LINES, blank, is_near_fence, scattered};
-use ct_fs::{Fs, FsError, Stat, format, mount};
+use ct_base::NoMemory;
+use ct_fs::{Fs, format, mount};
 use ct_plain::PlainTree;
 use ct_pm::Pm;
-use ct_tree::{Call, Reply};
+use ct_tree::Call;
 use pm_fuse::FusePm;
 use pm_trace::TracePm;
 use record_stops::{IMAGES, choices};
+use script_runs::{change, is_alike};
 use std::alloc::Global;
 use std::process::Abort;
 use std::test::Fail;
@@ -75,32 +77,6 @@ const ALL: u64 = 13;
 
 const BEFORE: u64 = 1;
 
-// Makes a call of the list.
-fn play<D: Pm>(fs: &mut Fs<D>, call: &Call<'_>) -> Result<(), FsError> {
-    match *call {
-        Call::Create { path } => fs.create(path),
-        Call::Write { path, off, bytes } => fs.write(path, off, bytes),
-        Call::Fill {
-            path,
-            off,
-            len,
-            byte,
-        } => fs.fill(path, off, len, byte),
-        Call::Append { path, bytes } => fs.append(path, bytes),
-        Call::Truncate { path, len } => fs.truncate(path, len),
-        Call::Exchange {
-            path,
-            off,
-            other,
-            other_off,
-            len,
-        } => fs.exchange(path, off, other, other_off, len),
-        Call::Unlink { path } => fs.unlink(path),
-        Call::Rename { path, to } => fs.rename(path, to),
-        _ => Ok(()),
-    }
-}
-
 // A device after a format and so many of the calls, as far as so many of its own calls go, and how many were done.
 fn ran(alloc: Global, calls: u64, passes: u64) -> Result<(TracePm, u64), Fail> {
     let mut fs = match format(alloc, FusePm::new(blank(alloc)?, passes), 16) {
@@ -109,7 +85,7 @@ fn ran(alloc: Global, calls: u64, passes: u64) -> Result<(TracePm, u64), Fail> {
     };
     let mut done: u64 = 0;
     for call in CALLS.iter().take(calls as usize) {
-        if play(&mut fs, call).is_ok() {
+        if change(&mut fs, call) == Some(Ok(())) {
             done = done.saturating_add(1);
         }
     }
@@ -125,38 +101,28 @@ fn tree_after(alloc: Global, calls: u64) -> Result<PlainTree, Fail> {
     Ok(tree)
 }
 
+// What is asked of a path: its size, and its first three pages.
+const OFFSETS: [u64; 3] = [0, 4096, 8192];
+
 // Whether both tell the same of a path: that nothing is there, or the same bytes.
-fn is_alike<D: Pm>(
-    alloc: Global,
-    fs: &Fs<D>,
-    tree: &mut PlainTree,
-    path: &[u8],
-) -> Result<bool, Fail> {
-    let mut bytes = vec![in alloc; 0u8; 10_000]?;
-    let count = match fs.read(path, 0, 10_000, bytes.as_mut_slice()) {
-        Ok(count) => count,
-        Err(_) => {
-            let reply = tree.call(&Call::Stat { path })?;
-            return Ok(matches!(reply, Reply::Refused(_)));
+fn are_alike<D: Pm>(fs: &mut Fs<D>, tree: &mut PlainTree, path: &[u8]) -> Result<bool, NoMemory> {
+    for off in OFFSETS {
+        let read = Call::Read {
+            path,
+            off,
+            len: 4096,
+        };
+        if !is_alike(fs, tree, &read)? {
+            return Ok(false);
         }
-    };
-    let size = fs.stat(path);
-    match tree.call(&Call::Read {
-        path,
-        off: 0,
-        len: 10_000,
-    })? {
-        Reply::Data(data) => Ok(
-            data.as_slice() == &bytes[..count as usize] && size == Ok(Stat::File { size: count }),
-        ),
-        _ => Ok(false),
     }
+    is_alike(fs, tree, &Call::Stat { path })
 }
 
 // Whether a file system holds the tree after so many of the calls.
-fn is_after<D: Pm>(alloc: Global, fs: &Fs<D>, calls: u64) -> Result<bool, Fail> {
+fn is_after<D: Pm>(alloc: Global, fs: &mut Fs<D>, calls: u64) -> Result<bool, Fail> {
     let mut tree = tree_after(alloc, calls)?;
-    Ok(is_alike(alloc, fs, &mut tree, b"/a")? && is_alike(alloc, fs, &mut tree, b"/b")?)
+    Ok(are_alike(fs, &mut tree, b"/a")? && are_alike(fs, &mut tree, b"/b")?)
 }
 
 // Whether what is left mounts, and holds the tree after so many of the calls.
@@ -164,8 +130,8 @@ fn holds_after(alloc: Global, left: TracePm, calls: u64) -> Result<bool, Fail>
     requires { IsSettled (history left) }
 {
     match mount(alloc, left) {
-        Ok(fs) => {
-            let after = is_after(alloc, &fs, calls);
+        Ok(mut fs) => {
+            let after = is_after(alloc, &mut fs, calls);
             let _dev = fs.unmount();
             after
         }

@@ -4,15 +4,7 @@
 #![tactic(auto)]
 
 #[cfg(test)]
-mod cuts;
-#[cfg(test)]
 mod ends;
-#[cfg(test)]
-mod generated;
-#[cfg(test)]
-mod plans;
-#[cfg(test)]
-mod renames;
 #[cfg(test)]
 mod runs;
 #[cfg(test)]

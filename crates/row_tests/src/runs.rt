@@ -1,6 +1,8 @@
 // Runs of the shell over plain memory: what they write, and how they end.
+ghost use Rattle.std.specs.Prelude.{◌≤◌};
+
 use crate::scripts::{BYTES, ENTRIES, NAMES, PLACES};
-use ct_base::{MemSink, MemSource, NoMemory};
+use ct_base::{MOST_PAGES, MemSink, MemSource, NoMemory};
 use ct_fs::{Why, format};
 use ct_pm::RamPm;
 use ct_run::Status;
@@ -31,11 +33,18 @@ fn served(
     ran_between(alloc, "mem", dev, input, out)
 }
 
+// Checks how a run ended: its status, and what it wrote.
+fn check<D>(rt: &impl Abort, left: &Left<D>, status: Status, replies: &str) {
+    assert_eq!(rt;
+        (left.status, left.out.bytes()),
+        (status, replies.as_bytes())
+    );
+}
+
 fn check_rows(rt: &impl Abort, alloc: Global, rows: &[(&str, &str)]) -> Result<(), Fail> {
     for (script, replies) in rows {
-        let done = ran(alloc, "mem", RamPm::new(alloc, 4096)?, script.as_bytes())?;
-        assert_eq!(rt; done.status, Status::Done);
-        assert_eq!(rt; done.out.bytes(), replies.as_bytes(), "{script}");
+        let left = ran(alloc, "mem", RamPm::new(alloc, 4096)?, script.as_bytes())?;
+        check(rt, &left, Status::Done, replies);
     }
     Ok(())
 }
@@ -57,45 +66,72 @@ fn a_device_of_the_bound_has_pages_enough(rt: HostRuntime) -> Result<(), Fail> {
         (256 + 2 * 128 + 2 * 400, "ok\nok\n"),
         (450, "ok\nerror no pages\n"),
     ] {
-        let done = ran(alloc, "mem", RamPm::new(alloc, pages)?, script)?;
-        assert_eq!(rt; done.status, Status::Done);
-        assert_eq!(rt; done.out.bytes(), replies.as_bytes(), "{pages}");
+        let left = ran(alloc, "mem", RamPm::new(alloc, pages)?, script)?;
+        check(&rt, &left, Status::Done, replies);
     }
     Ok(())
+}
+
+// Why a device of so many pages is not formatted, where it is not.
+fn no_format(alloc: Global, pages: u64) -> Result<Option<Why>, NoMemory>
+    requires { pages ≤ MOST_PAGES }
+{
+    match format(alloc, RamPm::new(alloc, pages)?, 16) {
+        Ok(fs) => {
+            let _dev = fs.unmount();
+            Ok(None)
+        }
+        Err(no_mount) => Ok(Some(no_mount.why)),
+    }
 }
 
 #[test]
 fn a_device_has_256_pages_at_least(rt: HostRuntime) -> Result<(), Fail> {
     let alloc = rt.alloc();
-    for (pages, want, code) in [(255, Status::NotImage(0), 3), (256, Status::Done, 0)] {
-        let done = ran(alloc, "mem", RamPm::new(alloc, pages)?, b"")?;
-        assert_eq!(rt; (done.status, done.status.code()), (want, code));
-        assert_eq!(rt; done.out.bytes(), b"".as_slice());
-    }
-    match format(alloc, RamPm::new(alloc, 255)?, 16) {
-        Ok(fs) => {
-            let _dev = fs.unmount();
-            assert!(rt; false);
-        }
-        Err(no_mount) => assert_eq!(rt; no_mount.why, Why::Damage(0)),
+    for (pages, why, status) in [
+        (255, Some(Why::Damage(0)), Status::NotImage(0)),
+        (256, None, Status::Done),
+    ] {
+        let left = ran(alloc, "mem", RamPm::new(alloc, pages)?, b"")?;
+        check(&rt, &left, status, "");
+        assert_eq!(rt; no_format(alloc, pages)?, why);
     }
     Ok(())
+}
+
+// The codes of the statuses that these runs have.
+#[test]
+fn statuses_have_codes(rt: HostRuntime) {
+    let statuses = [
+        Status::Done,
+        Status::NotImage(0),
+        Status::DeviceFault,
+        Status::ReadFault,
+        Status::WriteFault,
+        Status::TooLong,
+    ];
+    assert_eq!(rt; statuses.map(|status| status.code()), [0, 3, 4, 5, 6, 8]);
+}
+
+// A line that is a byte longer than lines may be.
+fn long_line(alloc: Global) -> Result<Vec<u8>, Fail> {
+    let mut line = b"create /".to_vec(alloc)?;
+    for _ in 0..65_529 {
+        line.push(b'a')?;
+    }
+    Ok(line)
 }
 
 #[test]
 fn long_scripts_and_lines_have_limits(rt: HostRuntime) -> Result<(), Fail> {
     let alloc = rt.alloc();
-    let mut line = b"create /".to_vec(alloc)?;
-    line.extend_from_slice(&bytes_of(alloc, b'a', 65_529)?)?;
-    for (script, want, replies) in [
-        (bytes_of(alloc, b'\n', 16_777_216)?, Status::Done, ""),
-        (bytes_of(alloc, b'\n', 16_777_217)?, Status::TooLong, ""),
-        (line, Status::Done, "error line\n"),
-    ] {
-        let done = served(alloc, script, Vec::new(alloc), Vec::new(alloc))?;
-        assert_eq!(rt; done.status, want);
-        assert_eq!(rt; done.out.bytes(), replies.as_bytes());
+    for (count, status) in [(16_777_216, Status::Done), (16_777_217, Status::TooLong)] {
+        let script = bytes_of(alloc, b'\n', count)?;
+        let left = served(alloc, script, Vec::new(alloc), Vec::new(alloc))?;
+        check(&rt, &left, status, "");
     }
+    let left = served(alloc, long_line(alloc)?, Vec::new(alloc), Vec::new(alloc))?;
+    check(&rt, &left, Status::Done, "error line\n");
     Ok(())
 }
 
@@ -103,15 +139,11 @@ fn long_scripts_and_lines_have_limits(rt: HostRuntime) -> Result<(), Fail> {
 #[test]
 fn a_fault_of_an_end_ends_a_run(rt: HostRuntime) -> Result<(), Fail> {
     let alloc = rt.alloc();
-    for (reads, writes, want, code) in [
-        (1, 0, Status::ReadFault, 5),
-        (0, 1, Status::WriteFault, 6),
-    ] {
+    for (reads, writes, status) in [(1, 0, Status::ReadFault), (0, 1, Status::WriteFault)] {
         let script = b"create /a\n".to_vec(alloc)?;
         let reads = vec![in alloc; 0; reads]?;
-        let done = served(alloc, script, reads, vec![in alloc; 0; writes]?)?;
-        assert_eq!(rt; (done.status, done.status.code()), (want, code));
-        assert_eq!(rt; done.out.bytes(), b"".as_slice());
+        let left = served(alloc, script, reads, vec![in alloc; 0; writes]?)?;
+        check(&rt, &left, status, "");
     }
     Ok(())
 }
@@ -122,9 +154,8 @@ fn a_device_that_fails_ends_a_run(rt: HostRuntime) -> Result<(), Fail> {
     let alloc = rt.alloc();
     for passes in [10, 5_780] {
         let dev = FusePm::new(RamPm::new(alloc, 256)?, passes);
-        let done = ran(alloc, "mem", dev, b"create /a\n")?;
-        assert_eq!(rt; (done.status, done.status.code()), (Status::DeviceFault, 4));
-        assert_eq!(rt; done.out.bytes(), b"".as_slice());
+        let left = ran(alloc, "mem", dev, b"create /a\n")?;
+        check(&rt, &left, Status::DeviceFault, "");
     }
     Ok(())
 }

@@ -12,11 +12,11 @@ use std::alloc::Global;
 use std::test::Fail;
 
 // One page of zeros, with room for eight steps.
-fn device(alloc: Global, fail_at: Vec<u64>) -> Result<TracePm, Fail>
+fn device(alloc: Global) -> Result<TracePm, Fail>
     ensures { IfOk result (λ device. IsSettled (history device)) }
 {
     let words = vec![in alloc; 0; 512]?;
-    Ok(TracePm::new(alloc, words, 8, fail_at)?)
+    Ok(TracePm::new(alloc, words, 8, Vec::new(alloc))?)
 }
 
 // Makes the steps, as far as their words are on the device.
@@ -73,23 +73,11 @@ fn crashes_leave_what_they_may(rt: HostRuntime) -> Result<(), Fail> {
         (fenced, [3, 0], 0, 3),
         (fenced, [9, 0], 0, 3),
     ] {
-        let mut dev = device(alloc, Vec::new(alloc))?;
+        let mut dev = device(alloc)?;
         make(&mut dev, &steps)?;
         let found = left_at(alloc, &dev, choice, word)?;
         assert_eq!(rt; found, want, "word {word} at {choice:?}");
     }
-    Ok(())
-}
-
-#[test]
-fn a_listed_call_fails(rt: HostRuntime) -> Result<(), Fail> {
-    let alloc = rt.alloc();
-    let mut dev = device(alloc, vec![in alloc; 1]?)?;
-    let steps = [store(0, 7), Step::Fence];
-    assert!(rt; make(&mut dev, &steps).is_err());
-    assert_eq!(rt; dev.clock(), 1);
-    assert!(rt; make(&mut dev, &steps).is_ok());
-    assert_eq!(rt; dev.clock(), 3);
     Ok(())
 }
 

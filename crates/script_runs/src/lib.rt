@@ -1,11 +1,15 @@
-//! Runs of the shell as tests make them: the words as one line, and input and output in memory.
+//! Runs of the shell as tests make them, with the words as one line, and input and output in memory; and calls over a file
+//! system and beside it over a plain tree.
 //!
 //! There is no model of its own, and no test, so that it is proved once.
 #![tactic(auto)]
 
+mod beside;
+
 ghost use Rattle.std.specs.Prelude.{◌≤◌};
 ghost use Rattle.ct_pm.specs.Device.{NothingPending};
 
+pub use beside::{change, is_alike};
 use ct_base::{MOST_PAGES, MemSink, MemSource, NoMemory};
 use ct_pm::{Pm, RamPm};
 use ct_run::{Status, run};

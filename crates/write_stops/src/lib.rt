@@ -1,15 +1,11 @@
-//! Writes of a file: what it holds after writes around the edges of pages and tables, how many steps a write makes, and what
-//! recovery makes of the images that are left where the device stops.
+//! A file that is written over any device: a holder of the device, which a test asks for one write after another, and what a
+//! reader of the image finds then.
 //!
-//! There is no model of its own: the device is one that remembers its steps, behind a fuse, and a file is a list of bytes.
+//! There is no model of its own, and no test, so that it is proved once.
 #![tactic(auto)]
 
 mod holder;
-#[cfg(test)]
-mod read;
-#[cfg(test)]
-mod stopped;
-#[cfg(test)]
-mod tests;
+mod written;
 
 pub use holder::{FILE, Holder, Wrote};
+pub use written::{byte_of, holds, put, size_of};

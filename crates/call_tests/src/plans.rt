@@ -18,19 +18,24 @@ fn a_write_that_grows_asks_for_four_wants(rt: HostRuntime) {
         level: 4,
     };
     let wants = write_wants(inode, 4096, 4096 * 8 * 512, 11 * SLOT_SPAN);
-    let wants = &wants[..];
-    assert_eq!(rt; parts(&wants[0]), (1, 10 * SLOT_SPAN + 4096, 1));
-    assert_eq!(rt; parts(&wants[1]), (2, 11 * SLOT_SPAN + 4096, 1));
-    assert_eq!(rt; parts(&wants[2]), (1, 11 * SLOT_SPAN + 4096 * 4096, 1));
-    assert_eq!(rt; parts(&wants[3]), (0, 2 * SLOT_SPAN + 4096, 4096 * 4096));
+    let want = [
+        (1, 10 * SLOT_SPAN + 4096, 1),
+        (2, 11 * SLOT_SPAN + 4096, 1),
+        (1, 11 * SLOT_SPAN + 4096 * 4096, 1),
+        (0, 2 * SLOT_SPAN + 4096, 4096 * 4096),
+    ];
+    for (found, want) in wants.iter().zip(want) {
+        assert_eq!(rt; parts(found), want);
+    }
 }
 
 #[test]
 fn pages_lie_alike_up_to_a_height(rt: HostRuntime) {
-    assert_eq!(rt; alike(3, 1, 513), 1);
-    assert_eq!(rt; alike(3, 0, SLOT_PAGES), 3);
-    assert_eq!(rt; alike(1, 0, SLOT_PAGES), 1);
-    assert_eq!(rt; edge(3, 511), 1);
-    assert_eq!(rt; edge(3, 512), 2);
-    assert_eq!(rt; edge(3, 0), 4);
+    let heights = [
+        alike(3, 1, 513),
+        alike(3, 0, SLOT_PAGES),
+        alike(1, 0, SLOT_PAGES),
+    ];
+    assert_eq!(rt; heights, [1, 3, 1]);
+    assert_eq!(rt; [edge(3, 511), edge(3, 512), edge(3, 0)], [1, 2, 4]);
 }

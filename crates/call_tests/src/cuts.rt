@@ -1,7 +1,6 @@
 // Files that are cut at and around the edges of pages, tables and levels, and made longer again: they read zeros there.
 use ct_fs::{Fs, FsError, format};
 use ct_pm::{Pm, RamPm};
-use std::alloc::Global;
 use std::process::Abort;
 use std::test::Fail;
 
@@ -20,51 +19,39 @@ fn cut_and_grow<D: Pm>(fs: &mut Fs<D>, size: u64, len: u64) -> Result<(), FsErro
 }
 
 // What stands about the length then: the first of the two bytes, and zeros.
-fn check_cut<D: Pm>(
-    rt: &impl Abort,
-    alloc: Global,
-    fs: &mut Fs<D>,
-    size: u64,
-    len: u64,
-) -> Result<(), Fail> {
-    assert_eq!(rt; cut_and_grow(fs, size, len), Ok(()), "{size} cut to {len}");
-    let mut bytes = vec![in alloc; 1u8; 3]?;
-    let count = fs.read(FILE, len.saturating_sub(1), 3, bytes.as_mut_slice());
+fn check_cut<D: Pm>(rt: &impl Abort, fs: &mut Fs<D>, size: u64, len: u64) {
+    let mut bytes = [1u8; 3];
+    let cut = cut_and_grow(fs, size, len);
+    let count = fs.read(FILE, len.saturating_sub(1), 3, &mut bytes);
+    let removed = fs.unlink(FILE);
     let most = size.saturating_sub(len).saturating_add(1).min(3);
-    assert_eq!(rt; count, Ok(most), "{size} cut to {len}");
-    assert_eq!(rt; bytes[0], b'x', "{size} cut to {len}");
-    assert_eq!(rt; bytes[1], 0, "{size} cut to {len}");
-    assert_eq!(rt; fs.unlink(FILE), Ok(()), "{size} cut to {len}");
-    Ok(())
+    let found = (cut, count, [bytes[0], bytes[1]], removed);
+    assert_eq!(rt;
+        found,
+        (Ok(()), Ok(most), *b"x\0", Ok(())),
+        "{size} cut to {len}"
+    );
 }
 
 // Cuts a file of a size to the lengths about an edge.
-fn check_edge<D: Pm>(
-    rt: &impl Abort,
-    alloc: Global,
-    fs: &mut Fs<D>,
-    size: u64,
-    edge: u64,
-) -> Result<(), Fail> {
+fn check_edge<D: Pm>(rt: &impl Abort, fs: &mut Fs<D>, size: u64, edge: u64) {
     for len in edge.saturating_sub(1)..edge.saturating_add(2) {
         if 0 < len && len < size {
-            check_cut(rt, alloc, fs, size, len)?;
+            check_cut(rt, fs, size, len);
         }
     }
-    Ok(())
 }
 
 // Cuts files that fill a partition of each level.
-fn check_levels<D: Pm>(rt: &impl Abort, alloc: Global, fs: &mut Fs<D>) -> Result<(), Fail> {
+fn check_levels<D: Pm>(rt: &impl Abort, fs: &mut Fs<D>) {
     for level in 0..10u32 {
         let size = 4096u64.saturating_mul(8u64.saturating_pow(level));
         for edge in EDGES {
-            check_edge(rt, alloc, fs, size, edge)?;
+            check_edge(rt, fs, size, edge);
         }
-        check_edge(rt, alloc, fs, size, size / 8)?;
-        check_edge(rt, alloc, fs, size, size)?;
+        check_edge(rt, fs, size, size / 8);
+        check_edge(rt, fs, size, size);
     }
-    Ok(())
 }
 
 #[test]
@@ -74,7 +61,7 @@ fn files_that_were_cut_read_zeros(rt: HostRuntime) -> Result<(), Fail> {
         Ok(fs) => fs,
         Err(_) => return Err(Fail::from("format")),
     };
-    let checked = check_levels(&rt, alloc, &mut fs);
+    check_levels(&rt, &mut fs);
     let _dev = fs.unmount();
-    checked
+    Ok(())
 }

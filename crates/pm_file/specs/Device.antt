@@ -1,6 +1,7 @@
 -- What a device over a file holds.
 use Rattle.std.specs.Prelude.{◌≡◌, ℕ, List, Bool, true, false, replicate, slice_index}
 use Rattle.pm_file.specs.declared.device.FilePm.{FilePm}
+use Rattle.pm_file.specs.declared.kept.KeptLine.{KeptLine}
 
 -- the words as they read
 abbrev pub words_of : {F : Type 0} → FilePm F → List ℕ
@@ -20,6 +21,10 @@ stored_of device = device.marks.stored.items
 -- the lines that the next fence writes
 abbrev pub marked_of : {F : Type 0} → FilePm F → List ℕ
 marked_of device = device.marks.marked.items
+
+-- lines as the file has them, where that is known: with the words before their first store since they were last written
+abbrev pub kept_of : {F : Type 0} → FilePm F → List KeptLine
+kept_of device = device.kept.lines.items
 
 -- the file is synced by the next fence even where no line is marked
 abbrev pub is_unsynced : {F : Type 0} → FilePm F → Bool

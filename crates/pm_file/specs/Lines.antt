@@ -1,9 +1,17 @@
 -- Sets of lines, a mask of 64 bits a page.
-use Rattle.std.specs.Prelude.{◌≡◌, ℕ, ◌-◌, ◌/◌, ◌%◌, ◌^◌, List, slice_index, slice_set, bit_and, bit_or, min, sum_by}
+use Rattle.std.specs.Prelude.{◌≡◌, ℕ, ◌-◌, ◌*◌, ◌/◌, ◌%◌, ◌^◌, List, slice_index, slice_set, bit_and, bit_or, min, sum_by, IsBitSet, take, drop}
 
 -- the set with a line more
 abbrev pub with_line : List ℕ → ℕ → List ℕ
 with_line masks line = slice_set masks (line / 64) (bit_or (slice_index masks (line / 64)) (2 ^ (line % 64)))
+
+-- the line is in the set
+abbrev pub HasLine : List ℕ → ℕ → Type 0
+HasLine masks line = IsBitSet (slice_index masks (line / 64)) (line % 64)
+
+-- the eight words of a line
+abbrev pub line_words : List ℕ → ℕ → List ℕ
+line_words words line = take 8 (drop (8 * line) words)
 
 -- how many pages have a line in the set
 abbrev pub page_total : List ℕ → ℕ

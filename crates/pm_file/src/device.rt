@@ -1,10 +1,13 @@
 ghost use Rattle.std.proofs.Common.{arith};
-ghost use Rattle.std.specs.Prelude.{◌≡◌, ◌≢◌, ◌≤◌, ◌*◌, ◌/◌, ◌%◌, ◌<◌, ◌+◌, ◌-◌, ◌^◌, ℕ, Ok, None, true, length, IfOk, OnOk, OnErr, IsBitSet, IsTrue, ◌↔◌, bit_and, slice_index, slice_set};
+ghost use Rattle.std.specs.Prelude.{◌≡◌, ◌≢◌, ◌≤◌, ◌*◌, ◌/◌, ◌%◌, ◌<◌, ◌+◌, ◌-◌, ◌^◌, ℕ, Ok, None, true, length, IfOk, OnOk, OnErr, IsBitSet, IsTrue, ◌↔◌, All, Contains, [], bit_and, slice_index, slice_set};
 ghost use Rattle.ct_base.specs.declared.layout.TheConstants.{MOST_PAGES, PAGE_WORDS};
 ghost use Rattle.ct_base.specs.Causes.{HasCause};
-ghost use Rattle.pm_file.specs.Lines.{with_line};
+ghost use Rattle.pm_file.specs.Kept.{Keeps};
+ghost use Rattle.pm_file.specs.Lines.{with_line, line_words, HasLine};
 
 use crate::attach::{AttachFault, PIECE, read_words, whole_pages};
+use crate::kept::Kept;
+use crate::lines::{LINE_WORDS, has_line};
 use crate::marks::Marks;
 use crate::writer::{Writer, zeros};
 use ct_base::{MOST_PAGES, PAGE_WORDS};
@@ -14,19 +17,20 @@ use std::fs::{Files, OpenFile, OpenOptions};
 use std::io;
 use std::os::unix::fs::FileExt;
 
-/// How many words a line has.
-const LINE_WORDS: usize = 8;
-
 /// The words of a file's whole pages in memory.
 ///
-/// A store changes memory alone. A flush marks its line for the next fence, where it was stored to since it was last
-/// written. A fence writes the marked lines to the file and syncs it.
+/// A store changes memory alone; what its line held is kept, where the line was not stored to since it was last written and
+/// fewer than 1,024 lines are kept. A flush marks its line for the next fence, where it was stored to since it was last
+/// written. A fence writes the marked lines to the file, but for those that are as they were kept, and syncs it. What was
+/// read from the file may be what another process wrote and did not sync, so the first fence syncs before it writes too, and
+/// so does the one after a failed fence.
 #[derive(Drop)]
 pub struct FilePm<F> {
     file: F,
     words: Vec<u64>,
     pages: u64,
     marks: Marks,
+    kept: Kept,
     writer: Writer,
     unsynced: bool,
     faults: u64,
@@ -34,6 +38,7 @@ pub struct FilePm<F> {
     ghost words_fit: { (word : ℕ) → slice_index words.items word < 2 ^ 64 },
     ghost few: { pages ≤ MOST_PAGES },
     ghost marks_size: { length marks.marked.items ≡ pages },
+    ghost kept_stored: { All (λ kept. HasLine marks.stored.items kept.line) kept.lines.items },
 }
 
 impl<F: FileExt + OpenFile + Drop> FilePm<F> {
@@ -59,8 +64,12 @@ impl<F: FileExt + OpenFile + Drop> FilePm<F> {
         }
     }
 
-    // The device over an open file.
-    fn over(alloc: Global, file: F) -> Result<FilePm<F>, AttachFault>
+    /// Reads the whole pages of an open file, as `attach` does. The file has to be open for reading and writing.
+    ///
+    /// # Errors
+    ///
+    /// `File` where the file could not be measured or read, and `NoMemory` where memory ran out.
+    pub fn over(alloc: Global, file: F) -> Result<FilePm<F>, AttachFault>
         ensures pages { IfOk result (λ device. pages_of device ≤ MOST_PAGES) }
         ensures fresh { IfOk result (λ device. IsFresh device) }
     {
@@ -73,8 +82,11 @@ impl<F: FileExt + OpenFile + Drop> FilePm<F> {
         let Ok(writer) = Writer::new(alloc) else {
             return Err(AttachFault::NoMemory);
         };
+        let Ok(kept) = Kept::new(alloc) else {
+            return Err(AttachFault::NoMemory);
+        };
         match words_of_file(alloc, &file, pages) {
-            Ok(words) => Ok(FilePm::of_parts(file, words, pages, marks, writer)),
+            Ok(words) => Ok(FilePm::of_parts(file, words, pages, marks, kept, writer)),
             Err(fault) => Err(fault),
         }
     }
@@ -87,10 +99,18 @@ impl<F: FileExt + OpenFile + Drop> FilePm<F> {
     }
 
     // The device over the words that were read.
-    fn of_parts(file: F, words: Vec<u64>, pages: u64, marks: Marks, writer: Writer) -> FilePm<F>
+    fn of_parts(
+        file: F,
+        words: Vec<u64>,
+        pages: u64,
+        marks: Marks,
+        kept: Kept,
+        writer: Writer,
+    ) -> FilePm<F>
         requires words { length words.items ≡ PAGE_WORDS * pages }
         requires few { pages ≤ MOST_PAGES }
         requires marks { length marks.marked.items ≡ pages }
+        requires none_kept { kept.lines.items ≡ [] }
         ensures pages { pages_of result ≡ pages }
         ensures stored { stored_of result ≡ marks.stored.items }
         ensures marked { marked_of result ≡ marks.marked.items }
@@ -102,6 +122,7 @@ impl<F: FileExt + OpenFile + Drop> FilePm<F> {
             words,
             pages,
             marks,
+            kept,
             writer,
             unsynced: true,
             faults: 0,
@@ -147,18 +168,41 @@ fn add_page<F: FileExt>(
     Ok(())
 }
 
-// Writes the marked lines and syncs the file.
+// Keeps a line as it is, where it was not stored to since it was last written.
+fn keep_line(kept: &mut Kept, stored: &[u64], words: &[u64], line: u64)
+    requires { 8 * line + 8 ≤ length words.now }
+    ensures first { ¬ HasLine stored.now line → Keeps kept.old.lines.items kept.new.lines.items line (line_words words.now line) }
+    ensures again { HasLine stored.now line → kept.new.lines.items ≡ kept.old.lines.items }
+{
+    if has_line(stored, line) {
+        return;
+    }
+    let first = LINE_WORDS * line as usize;
+    kept.keep(line, &words[first..first + LINE_WORDS]);
+}
+
+// Writes the marked lines but for those that are as the file has them, and syncs the file. A file that may hold what nobody
+// synced is synced before, so that nothing is written that rests on what may not last; where no line is marked, that is all.
 fn write_back<F: FileExt + OpenFile>(
     file: &F,
+    unsynced: bool,
     words: &[u64],
     marks: &Marks,
+    kept: &Kept,
     writer: &mut Writer,
 ) -> io::Result<()>
     requires size { length words.now ≡ PAGE_WORDS * length marks.now.marked.items }
     requires few { length marks.now.marked.items ≤ MOST_PAGES }
 {
+    if unsynced {
+        file.sync_data()?;
+    }
+    if marks.is_empty() {
+        return Ok(());
+    }
     for page in &marks.pages {
-        add_page(file, words, *page, marks.marked[*page as usize], writer)?;
+        let mask = marks.marked[*page as usize] & !kept.same_lines(*page, words);
+        add_page(file, words, *page, mask, writer)?;
     }
     writer.send(file)?;
     file.sync_data()
@@ -167,7 +211,7 @@ fn write_back<F: FileExt + OpenFile>(
 impl<F: FileExt + OpenFile + Drop> Pm for FilePm<F> {
     ghost use Rattle.ct_pm.specs.declared.step.Step.TheVariants.{Store, Flush, Fence};
     ghost use Rattle.ct_pm.specs.Device.{AddsStep};
-    ghost use Rattle.pm_file.specs.Device.{words_of, faults_of, stored_of, marked_of, is_unsynced, IsQuiet};
+    ghost use Rattle.pm_file.specs.Device.{words_of, faults_of, stored_of, marked_of, kept_of, is_unsynced, IsQuiet};
 
     ghost words = { λ device. device.words.items };
 
@@ -201,13 +245,17 @@ impl<F: FileExt + OpenFile + Drop> Pm for FilePm<F> {
         ensures marked { marked_of self.new ≡ marked_of self.old }
         ensures stored { slice_index (words_of self.old) word ≢ value → stored_of self.new ≡ with_line (stored_of self.old) (word / 8) }
         ensures same { slice_index (words_of self.old) word ≡ value → self.new ≡ self.old }
+        ensures kept_first { slice_index (words_of self.old) word ≢ value → ¬ HasLine (stored_of self.old) (word / 8) → Keeps (kept_of self.old) (kept_of self.new) (word / 8) (line_words (words_of self.old) (word / 8)) }
+        ensures kept_again { HasLine (stored_of self.old) (word / 8) → kept_of self.new ≡ kept_of self.old }
     {
         let at = word as usize;
         if self.words[at] == value {
             return Ok(());
         }
+        let line = word / 8;
+        keep_line(&mut self.kept, &self.marks.stored, &self.words, line);
         self.words[at] = value;
-        self.marks.store(word / 8);
+        self.marks.store(line);
         Ok(())
     }
 
@@ -219,6 +267,7 @@ impl<F: FileExt + OpenFile + Drop> Pm for FilePm<F> {
         ensures stored { stored_of self.new ≡ stored_of self.old }
         ensures marked { IsBitSet (slice_index (stored_of self.old) (line / 64)) (line % 64) → marked_of self.new ≡ with_line (marked_of self.old) line }
         ensures others { ¬ IsBitSet (slice_index (stored_of self.old) (line / 64)) (line % 64) → marked_of self.new ≡ marked_of self.old }
+        ensures as_kept { kept_of self.new ≡ kept_of self.old }
     {
         self.marks.mark(line);
         Ok(())
@@ -232,6 +281,8 @@ impl<F: FileExt + OpenFile + Drop> Pm for FilePm<F> {
         ensures stored { OnOk result ((page : ℕ) → slice_index (stored_of self.new) page ≡ bit_and (slice_index (stored_of self.old) page) (2 ^ 64 - 1 - slice_index (marked_of self.old) page)) }
         ensures kept { OnErr result ((marked_of self.new ≡ marked_of self.old) × (stored_of self.new ≡ stored_of self.old)) }
         ensures unsynced { OnErr result (is_unsynced self.new ≡ true) }
+        ensures as_kept { All (Contains (kept_of self.old)) (kept_of self.new) }
+        ensures forgotten { All (λ kept. ¬ HasLine (marked_of self.old) kept.line) (kept_of self.new) }
         ensures count { faults_of self.new ≤ faults_of self.old + 1 }
         ensures nothing_to_do { IsQuiet self.old → (result ≡ Ok tt) × (self.new ≡ self.old) }
     {
@@ -239,7 +290,17 @@ impl<F: FileExt + OpenFile + Drop> Pm for FilePm<F> {
             return Ok(());
         }
         self.marks.sort();
-        if write_back(&self.file, &self.words, &self.marks, &mut self.writer).is_err() {
+        self.kept.sort();
+        let answer = write_back(
+            &self.file,
+            self.unsynced,
+            &self.words,
+            &self.marks,
+            &self.kept,
+            &mut self.writer,
+        );
+        self.kept.forget(&self.marks.marked);
+        if answer.is_err() {
             self.unsynced = true;
             self.faults = self.faults.saturating_add(1);
             return Err(PmFault);

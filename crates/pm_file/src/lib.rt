@@ -8,9 +8,12 @@
 
 mod attach;
 mod device;
+mod kept;
 mod lines;
+mod lock;
 mod marks;
 mod writer;
 
 pub use attach::AttachFault;
 pub use device::FilePm;
+pub use lock::FileLock;

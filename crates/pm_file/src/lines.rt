@@ -2,6 +2,9 @@
 ghost use Rattle.std.specs.Prelude.{◌≡◌, ◌^◌, ℕ, ◌/◌, ◌%◌, ◌<◌, ◌↔◌, length, slice_index, IsBitSet, IsTrue};
 ghost use Rattle.pm_file.specs.Lines.{with_line};
 
+/// How many words a line has.
+pub const LINE_WORDS: usize = 8;
+
 /// Puts a line into the set.
 pub fn add_line(masks: &mut Vec<u64>, line: u64)
     requires { line / 64 < length masks.old.items }
@@ -12,10 +15,10 @@ pub fn add_line(masks: &mut Vec<u64>, line: u64)
     masks[page] |= 1 << (line % 64);
 }
 
-/// Whether a line is in the set.
+/// Whether a line is in the set. None past its last page is.
 pub fn has_line(masks: &[u64], line: u64) -> bool
-    requires { line / 64 < length masks.now }
     ensures { IsTrue result ↔ IsBitSet (slice_index masks.now (line / 64)) (line % 64) }
 {
-    masks[(line / 64) as usize] & (1 << (line % 64)) != 0
+    let page = (line / 64) as usize;
+    page < masks.len() && masks[page] & (1 << (line % 64)) != 0
 }

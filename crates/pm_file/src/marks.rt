@@ -13,6 +13,7 @@ pub struct Marks {
     pub marked: Vec<u64>,
     pub pages: Vec<u64>,
     ghost stored_fit: { (page : ℕ) → slice_index stored.items page < 2 ^ 64 },
+    ghost marked_fit: { (page : ℕ) → slice_index marked.items page < 2 ^ 64 },
     ghost same_size: { length stored.items ≡ length marked.items },
     ghost room: { length marked.items ≤ vec_capacity pages },
     ghost counted: { length pages.items ≡ page_total marked.items },

@@ -7,6 +7,8 @@
 #[cfg(test)]
 mod counting;
 #[cfg(test)]
+mod looks;
+#[cfg(test)]
 mod staging;
 #[cfg(test)]
 mod tests;

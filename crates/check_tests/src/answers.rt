@@ -20,14 +20,18 @@ fn free_pages<D: Pm>(alloc: Global, dev: &D) -> Result<u64, CheckFault>
     }
 }
 
-/// The number of free pages in the image with these words set anew, one list after the other, or the first rule that fails.
-pub fn answer(alloc: Global, first: &[(u64, u64)], then: &[(u64, u64)]) -> Result<u64, CheckFault> {
-    let dev = match image(alloc, first, then) {
-        Some(dev) => dev,
-        None => return Err(CheckFault::Memory),
-    };
-    match check_head(&dev) {
-        Ok(()) => free_pages(alloc, &dev),
+/// The number of free pages of an image, or the first rule that fails.
+pub fn answer_on<D: Pm>(alloc: Global, dev: &D) -> Result<u64, CheckFault> {
+    match check_head(dev) {
+        Ok(()) => free_pages(alloc, dev),
         Err(rule) => Err(CheckFault::Damage(rule)),
+    }
+}
+
+/// The same of the image with these words set anew, one list after the other.
+pub fn answer(alloc: Global, first: &[(u64, u64)], then: &[(u64, u64)]) -> Result<u64, CheckFault> {
+    match image(alloc, first, then) {
+        Some(dev) => answer_on(alloc, &dev),
+        None => Err(CheckFault::Memory),
     }
 }

@@ -5,6 +5,6 @@ mod answers;
 mod rows;
 mod volume;
 
-pub use answers::answer;
+pub use answers::{answer, answer_on};
 pub use rows::{EMPTY, ROWS, TWO_FILES};
 pub use volume::image;

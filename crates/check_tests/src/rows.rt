@@ -71,7 +71,7 @@ const TWO_DIRECTORIES: &[(u64, u64)] = &[
 ];
 
 /// What is set in the image of a format with 256 pages and 16 inodes, what is set after it, and the first rule that fails then.
-pub const ROWS: [(&[(u64, u64)], &[(u64, u64)], u32); 29] = [
+pub const ROWS: [(&[(u64, u64)], &[(u64, u64)], u32); 30] = [
     (EMPTY, &[(0, 0)], 1),
     (EMPTY, &[(1, 2)], 2),
     (EMPTY, &[(2, 257)], 3),
@@ -100,7 +100,8 @@ pub const ROWS: [(&[(u64, u64)], &[(u64, u64)], u32); 29] = [
     // a byte of padding
     (TWO_FILES, &[(23073, 25186)], 17),
     (TWO_FILES, &[(23073, 97)], 18),
-    // an inode without a name, a name of the root, and a file with two names
+    // inodes without a name, with no partition and with one; a name of the root, and a file with two names
+    (EMPTY, &[(18960, 1), (18963, 15)], 19),
     (LARGE_FILE, &[(20993, 0x0010_3030)], 19),
     (TWO_FILES, &[(23072, 1 + ONE_BYTE)], 19),
     (TWO_FILES, &[(23072, 2 + ONE_BYTE)], 19),

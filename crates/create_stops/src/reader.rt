@@ -50,14 +50,19 @@ fn page_at<D: Pm>(dev: &D, address: u64) -> Option<u64> {
     step(dev, first, address / PAGE_BYTES % TABLE_ENTRIES)
 }
 
+/// The number of the word of the device at an address, where a page is there.
+pub fn place<D: Pm>(dev: &D, address: u64) -> Option<u64> {
+    let page = page_at(dev, address)?;
+    Some(
+        page.saturating_mul(PAGE_WORDS)
+            .saturating_add(address % PAGE_BYTES / 8),
+    )
+}
+
 /// The word at an address, 0 where no page is there.
 pub fn word_at<D: Pm>(dev: &D, address: u64) -> u64 {
-    match page_at(dev, address) {
-        Some(page) => word(
-            dev,
-            page.saturating_mul(PAGE_WORDS)
-                .saturating_add(address % PAGE_BYTES / 8),
-        ),
+    match place(dev, address) {
+        Some(at) => word(dev, at),
         None => 0,
     }
 }

@@ -1,14 +1,10 @@
 -- Known bytes that grow in steps, and a list that is given in pieces.
-use Rattle.std.proofs.Common.{◌≡◌, ◌∙◌, ℕ, ◌+◌, ◌≤◌, List, ◌++◌, length, take, drop, sym, ap, append_assoc, append-nil, length-take, length-drop, arith}
+use Rattle.std.proofs.Common.{◌≡◌, ◌∙◌, ℕ, ◌+◌, ◌≤◌, List, ◌++◌, length, take, drop, sym, ap, append_assoc, length-take, length-drop, arith}
 use Rattle.std.specs.Prelude.{Some, None}
 use Rattle.std.specs.declared.option.Option.{Option}
-use Rattle.std.specs.Io.KnownBytes.{Appends, Keeps}
+use Rattle.std.specs.Io.KnownBytes.{Appends}
 use Rattle.std.proofs.Math.Seq.{take-add}
 use Rattle.std.proofs.lemmas.List.{take_at, drop-drop, take-append-drop}
-
-pub appends_none : (old : Option (List ℕ)) (bs : List ℕ) → Appends old old (take 0 bs)
-appends_none None bs = tt
-appends_none (Some xs) bs = sym (append-nil xs)
 
 pub appends_more : (a b c : Option (List ℕ)) (d n : ℕ) (bs : List ℕ) → Appends a b (take d bs) → Appends b c (take n (drop d bs)) → Appends a c (take (d + n) bs)
 appends_more None b c d n bs p q = tt
@@ -16,12 +12,6 @@ appends_more (Some x) None c d n bs p q = absurd p
 appends_more (Some x) (Some y) None d n bs p q = absurd q
 appends_more (Some x) (Some y) (Some z) d n bs p q =
     q ∙ ap (λ u. u ++ take n (drop d bs)) p ∙ append_assoc x (take d bs) (take n (drop d bs)) ∙ ap (λ u. x ++ u) (sym (take-add d n bs))
-
-pub appends_kept : (a b c : Option (List ℕ)) (w : List ℕ) → Appends a b w → Keeps b c → Appends a c w
-appends_kept None b c w p q = tt
-appends_kept (Some x) None c w p q = absurd p
-appends_kept (Some x) (Some y) None w p q = absurd q
-appends_kept (Some x) (Some y) (Some z) w p q = q ∙ p
 
 -- what is copied to the front of a buffer, and what is left, are what was left
 pub piece_and_rest : (xs w buf : List ℕ) (at n : ℕ) → at + n ≤ length xs → w ≡ take n (drop at xs) → drop at xs ≡ take n (w ++ buf) ++ drop (at + n) xs

@@ -1,7 +1,7 @@
+pub mod Carried
 pub mod Chosen
 pub mod Enlarged
 pub mod FilePages
-pub mod Landed
 pub mod Neutral
 pub mod Paged
 pub mod Pairs
@@ -10,5 +10,4 @@ pub mod Roomed
 pub mod Rooms
 pub mod Spaced
 pub mod Spaces
-pub mod Turned
 pub mod Vacant

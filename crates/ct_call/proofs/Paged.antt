@@ -14,10 +14,13 @@ use Rattle.ct_pm.proofs.Told.{weaker}
 use Rattle.ct_record.proofs.Settles.{same_refl}
 use Rattle.ct_tree.specs.Lands.{files}
 use Rattle.ct_walk.specs.Growth.{Extends, Grown, MayGrow}
-use Rattle.ct_call.specs.Landing.{LandsAs}
-use Rattle.ct_call.specs.Mounted.{AreOwned, IsAtRest, OffFiles}
-use Rattle.ct_call.proofs.FilePages.{file_cell, grown_page, settled_page}
-use Rattle.ct_call.proofs.Landed.{same_as, shut_crash}
+use Rattle.ct_commit.specs.Landing.{LandsAs}
+use Rattle.ct_call.specs.Mounted.{AreOwned, OffFiles}
+use Rattle.ct_commit.specs.Rest.{IsAtRest}
+use Rattle.ct_call.proofs.FilePages.{grown_page}
+use Rattle.ct_commit.proofs.Pages.{file_cell, settles_page}
+use Rattle.ct_commit.proofs.Landed.{same_as}
+use Rattle.ct_commit.proofs.States.{closed_of, shut_crash}
 use Rattle.ct_call.proofs.Neutral.{grown_alike, grown_rests, grown_state}
 
 module _ {old : List ℕ} {wants : List Want} {before after : FreePages} (rest : IsAtRest old) (owned : AreOwned old wants) (off : OffFiles old wants) (agrees : Agrees old before) where
@@ -26,7 +29,7 @@ module _ {old : List ℕ} {wants : List Want} {before after : FreePages} (rest :
 
   spares : (image : List ℕ) (word value : ℕ) → Grown old image wants before after → MayGrow old wants before after word → SparesFiles image word value
   spares image word value g may file =
-      let now = settled_page image (grown_rests rest g owned) (same_refl (settled image)) file in
+      let now = settles_page image (closed_of (grown_rests rest g owned)) (same_refl (settled image)) file in
       let was = grown_page rest g (grown_alike rest g owned) off now in
       let q = was.address / 4096 in
       let here : page_at old 4 q ≡ word / 512 = file_cell old rest.sound was in

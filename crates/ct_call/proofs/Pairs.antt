@@ -1,5 +1,5 @@
 -- How many pairs a call's long record may have.
-use Rattle.std.proofs.Common.{ℕ, ◌≤◌, arith}
+use Rattle.std.proofs.Common.{◌≤◌, arith}
 use Rattle.ct_tree.specs.Step.{Op, append, create, exchange, fill, list, locate, mkdir, read, rename, rmdir, stat, truncate, unlink, write}
 use Rattle.ct_call.specs.Calls.{most_pairs}
 
@@ -19,20 +19,3 @@ least_pairs (exchange path off other other_off len) = omega arith
 least_pairs (stat path) = omega arith
 least_pairs (list path) = omega arith
 least_pairs (locate path) = omega arith
-
--- and none more than an exchange
-pub all_pairs : (op : Op) → most_pairs op ≤ 8000
-all_pairs (create path) = omega arith
-all_pairs (mkdir path) = omega arith
-all_pairs (write path off bytes) = omega arith
-all_pairs (fill path off len byte) = omega arith
-all_pairs (append path bytes) = omega arith
-all_pairs (read path off len) = omega arith
-all_pairs (truncate path len) = omega arith
-all_pairs (unlink path) = omega arith
-all_pairs (rmdir path) = omega arith
-all_pairs (rename path to) = omega arith
-all_pairs (exchange path off other other_off len) = omega arith
-all_pairs (stat path) = omega arith
-all_pairs (list path) = omega arith
-all_pairs (locate path) = omega arith

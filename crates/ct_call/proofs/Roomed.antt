@@ -23,7 +23,8 @@ use Rattle.ct_call.proofs.Chosen.{IsFirst, first_free, head_is, owner_apart}
 use Rattle.ct_call.proofs.Enlarged.{part_bytes-le}
 use Rattle.ct_call.proofs.Rooms.{ready_here}
 use Rattle.ct_call.proofs.Spaced.{open_part}
-use Rattle.ct_call.specs.Mounted.{AreOwned, IsAtRest, OffFiles}
+use Rattle.ct_call.specs.Mounted.{AreOwned, OffFiles}
+use Rattle.ct_commit.specs.Rest.{IsAtRest, IsUnstaged}
 use Rattle.ct_call.specs.Placed.{IsMoved}
 use Rattle.ct_call.specs.Plans.{Asks, Fits, free_of, grown_wants, level_of, part_then}
 use Rattle.ct_call.specs.Rooms.{Gives, HasMoved, MakesRoom}
@@ -45,12 +46,13 @@ may_enlarge {w} {i} {q = q} rest live first high more has =
 -- what a plan that fits says of words at rest
 pub record Planned (w : List ℕ) (before : FreePages) (i : ℕ) (growth : Option ℕ) (wants more : List Want) : Type 0 where
   pub rest : IsAtRest w
+  pub unstaged : IsUnstaged w
   pub some : (level : ℕ) → growth ≡ Some level → free_of w level ≢ []
   pub asks : Asks w i (inode (view w) i) growth wants more
   pub room : missing w wants ≤ length before.free
 
-pub planned : {w : List ℕ} {before : FreePages} {i : ℕ} {plan : CallPlan} → IsAtRest w → Fits w before plan → Asks w i (inode (view w) i) (level_of plan.growth) plan.wants plan.rest → Planned w before i (level_of plan.growth) plan.wants plan.rest
-planned {w} {plan = plan} rest fits asks = record { rest = rest; some = open_part w plan.growth fits.opens fits.part; asks = asks; room = fits.pages }
+pub planned : {w : List ℕ} {before : FreePages} {i : ℕ} {plan : CallPlan} → IsAtRest w → IsUnstaged w → Fits w before plan → Asks w i (inode (view w) i) (level_of plan.growth) plan.wants plan.rest → Planned w before i (level_of plan.growth) plan.wants plan.rest
+planned {w} {plan = plan} rest unstaged fits asks = record { rest = rest; unstaged = unstaged; some = open_part w plan.growth fits.opens fits.part; asks = asks; room = fits.pages }
 
 module _ {w : List ℕ} {before : FreePages} {i : ℕ} {growth : Option ℕ} {wants more : List Want} (p : Planned w before i growth wants more) where
   abbrev f : Inode
@@ -69,7 +71,7 @@ module _ {w : List ℕ} {before : FreePages} {i : ℕ} {growth : Option ℕ} {wa
   pub can_grow : (level : ℕ) → growth ≡ Some level → CanGrow w i level × (growth_need w (inode (view w) i) level ≤ length before.free)
   can_grow level goes =
       let grows = p.asks.grows level goes in (
-        record { ready = ready_here p.rest; live = p.asks.live; fits = grows.0; more = grows.1; some = p.some level goes },
+        record { ready = ready_here p.rest p.unstaged; live = p.asks.live; fits = grows.0; more = grows.1; some = p.some level goes },
         omega (arith, missing_first w (growth_wants f (next level)) (map (counted f (next level)) more), whole level goes, p.room),
       )
 

@@ -1,7 +1,8 @@
 -- After growth the words are at rest again, and have the same objects.
-use Rattle.std.proofs.Common.{◌≡◌, ◌≢◌, ℕ, ◌+◌, ◌*◌, ◌<◌, ◌≤◌, List, Option, sym, ap, ◌∙◌, subst, ◌⊎◌, inl, inr, arith}
+use Rattle.std.proofs.Common.{◌≡◌, ◌≢◌, ℕ, ◌+◌, ◌≤◌, List, Option, sym, ap, ◌∙◌, subst, ◌⊎◌, inl, inr, arith}
 use Rattle.ct_base.specs.Head.{HasHead}
 use Rattle.ct_base.specs.Inode.{inode, IsPart, Partition, free_parts, live_parts}
+use Rattle.ct_base.specs.Objects.{Object}
 use Rattle.ct_base.specs.Plan.{next_part}
 use Rattle.ct_base.specs.Rules.{entries, once, inodes, placed, apart, tails, mapped, headers, rest, slots, names, named, reached, Sound, AreEntries, AreNamesApart, AreNamed, AreReached}
 use Rattle.ct_base.specs.State.{SameState}
@@ -12,27 +13,21 @@ use Rattle.ct_grow.proofs.Readied.{own_part}
 use Rattle.ct_grow.proofs.Wanting.{unwanted}
 use Rattle.ct_grow.specs.Grown.{CanGrow, CellsMoved, IsReady, Promoted}
 use Rattle.ct_grow.specs.Moments.{HasGrown, IsBeforeOrAfter}
+use Rattle.ct_frames.specs.Free.{FreePages}
 use Rattle.ct_pm.specs.Images.{History}
 use Rattle.ct_pm.specs.Phase.{Phase}
-use Rattle.ct_pm.proofs.Phases.{phase_weaker}
-use Rattle.ct_record.proofs.Lawful.{shut_few}
-use Rattle.ct_state.specs.Alike.{IsWhole}
-use Rattle.ct_state.proofs.Carry.{files-same, sound-same}
-use Rattle.ct_state.proofs.Shut.{shut_alike, shut_whole}
-use Rattle.ct_state.proofs.States.{SameHead, head_of, head_on, head_rules}
+use Rattle.ct_pm.proofs.Phases.{phase_then, phase_weaker}
 use Rattle.ct_tree.specs.Lands.{files}
 use Rattle.ct_call.proofs.Chosen.{first_free, head_is}
-use Rattle.ct_call.proofs.Neutral.{no_entry, no_table}
-use Rattle.ct_call.proofs.Landed.{same_as, state_as}
-use Rattle.ct_call.specs.Landing.{LandsAs}
-use Rattle.ct_call.specs.Mounted.{IsAtRest}
+use Rattle.ct_commit.proofs.Resting.{no_table, slots_stay}
+use Rattle.ct_commit.proofs.Landed.{rest_as, same_as, state_as}
+use Rattle.ct_commit.proofs.States.{head_over}
+use Rattle.ct_commit.specs.Landing.{LandsAs}
+use Rattle.ct_commit.specs.Rest.{IsAtRest, IsMounted, IsUnstaged}
 
 module _ {w new : List ℕ} {dir : ℕ} {p : Partition} (r : IsAtRest w) (pr : Promoted w new dir p) (ready : IsReady new) where
-  same_head : SameHead w new
-  same_head = record { lawful = r.head.recorded; lawful_too = (shut_few 0 new ready.shut).lawful; words = pr.superblock; size = pr.length }
-
   pub moved_head : HasHead new
-  moved_head = head_of (λ h. head_on same_head h (head_rules r.head h))
+  moved_head = head_over r.head pr.superblock pr.length ready.shut
 
   pub moved_sound : Sound new
   moved_sound entries = ready.rules entries (omega arith)
@@ -53,10 +48,7 @@ module _ {w new : List ℕ} {dir : ℕ} {p : Partition} (r : IsAtRest w) (pr : P
   moved_files = pr.objects
 
   pub moved_as : LandsAs (files w) new
-  moved_as =
-      let whole : IsWhole new = record { tables = ready.tables; mapped = ready.rules mapped (omega arith) } in
-      let alike = shut_alike ready.shut whole in
-      record { head = moved_head; sound = sound-same alike (shut_whole ready.shut whole) moved_sound; objects = files-same alike ∙ moved_files }
+  moved_as = subst (λ fs. LandsAs fs new) moved_files (rest_as (record { head = moved_head; sound = moved_sound; shut = ready.shut; tables = ready.tables }))
 
 -- an image of growth lands on the objects
 growth_as : {w image : List ℕ} {dir : ℕ} {p : Partition} → IsAtRest w → SameState w image ⊎ HasGrown w dir p image → LandsAs (files w) image
@@ -79,16 +71,24 @@ module _ {w new : List ℕ} {dir level : ℕ} (r : IsAtRest w) (can : CanGrow w 
   low : (inode (view w) dir).level ≢ 15 → (inode (view w) dir).level ≤ 8
   low has = elim can.more [ inl none ↦ absurd (has none) | inr less ↦ omega (arith, less, can.fits) ]
 
-  pub moved_unstaged : (k : ℕ) → k < 8 → word new (33 * 512 + 2 + k) ≡ 0
-  moved_unstaged k lt =
-      let was = no_table w (2 + k) (omega (arith, lt)) (ap (word w) (omega arith) ∙ r.unstaged k lt) in
+  pub moved_unstaged : IsUnstaged w → IsUnstaged new
+  moved_unstaged none = slots_stay w new ready.tables (λ k lt.
+      let was = no_table w (2 + k) (omega (arith, lt)) (ap (word w) (omega arith) ∙ none k lt) in
       let off = unwanted (inode (view w) dir) part_next 1 (2 + k) (λ a on. (path_bounds part_next next_is a on).1) (omega arith)
       (λ has. let own = own_part can has in inr (omega (arith, own.low, lt), omega (arith, next_is.low, lt))) in
-      ap (word new) (omega arith) ∙ no_entry new (2 + k) (omega (arith, lt)) ready.tables (cells.absent 3 (2 + k) (omega arith) (λ has high. absurd (omega (arith, low has, high))) was off)
+      cells.absent 3 (2 + k) (omega arith) (λ has high. absurd (omega (arith, low has, high))) was off ∙ sym was) none
 
   pub moved_rest : Promoted w new dir part_next → IsAtRest new
-  moved_rest pr = record { head = moved_head r pr ready; sound = moved_sound r pr ready; shut = ready.shut; unstaged = moved_unstaged; tables = ready.tables }
+  moved_rest pr = record { head = moved_head r pr ready; sound = moved_sound r pr ready; shut = ready.shut; tables = ready.tables }
 
 -- a directory of words at rest may grow where the plan says so
-pub ready_here : {w : List ℕ} → IsAtRest w → IsReady w
-ready_here r = record { tables = r.tables; shut = r.shut; unstaged = r.unstaged 0 (omega arith); rules = λ rule le. r.sound rule; inodes = r.head.inodes }
+pub ready_here : {w : List ℕ} → IsAtRest w → IsUnstaged w → IsReady w
+ready_here r none = record { tables = r.tables; shut = r.shut; unstaged = none 0 (omega arith); rules = λ rule le. r.sound rule; inodes = r.head.inodes }
+
+pub ready_of : {w : List ℕ} {told : Option History} {frames : FreePages} → IsMounted w told frames → IsReady w
+ready_of m = ready_here m.rest m.unstaged
+
+-- growth, and the pages that are made then
+pub room_phase : (w0 w1 : List ℕ) {w2 : List ℕ} {from mid to : Option History} → files w1 ≡ files w0 → Phase (LandsAs (files w0)) 150 from mid w1 → Phase (LandsAs (files w1)) 0 mid to w2 → Phase (LandsAs (files w0)) 150 from to w2
+room_phase w0 w1 {w2 = w2} {mid = mid} {to = to} same first second =
+    phase_then first (phase_weaker (LandsAs (files w0)) (λ image lands. lands) (omega arith) (subst (λ (fs : ℕ → Object). Phase (LandsAs fs) 0 mid to w2) same second))

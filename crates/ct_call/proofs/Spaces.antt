@@ -20,7 +20,7 @@ use Rattle.ct_tree.specs.declared.call.Reply.{Reply}
 use Rattle.ct_tree.specs.declared.call.Reply.TheVariants.{Done, Refused as refused}
 use Rattle.ct_call.specs.Answers.{CanStart, ForSpace, IsAnswer, IsRefused, IsTold, LacksInode, LacksPartition, LacksPages}
 use Rattle.ct_call.specs.Calls.{StandsFor}
-use Rattle.ct_call.specs.Mounted.{IsAtRest}
+use Rattle.ct_commit.specs.Rest.{IsAtRest}
 use Rattle.ct_call.specs.declared.mount.FsError.{FsError}
 use Rattle.ct_call.specs.declared.mount.FsError.TheVariants.{Dead, Refused, Fault}
 

@@ -14,16 +14,13 @@ use Rattle.ct_tree.specs.Stands.{Stands}
 use Rattle.ct_tree.specs.Step.{Op, append, create, exchange, fill, mkdir, rename, rmdir, step, truncate, unlink, write}
 use Rattle.ct_tree.specs.Tree.{Tree}
 use Rattle.ct_call.specs.Answers.{CanStart, IsAnswer, IsTold}
-use Rattle.ct_call.specs.Mounted.{IsAtRest, Volume}
+use Rattle.ct_call.specs.Mounted.{Volume}
+pub use Rattle.ct_commit.specs.Rest.{StandsFor}
+use Rattle.ct_commit.specs.Rest.{IsAtRest, IsUnstaged}
 use Rattle.ct_call.specs.Seen.{device_in, faults_in, ready_in}
 use Rattle.ct_call.specs.declared.mount.FsError.{FsError}
 use Rattle.ct_call.specs.declared.mount.FsError.TheVariants.{Dead, Refused, Fault}
 use Rattle.ct_call.specs.declared.mount.State.{State}
-
--- the words stand for the tree
-pub record StandsFor (img : List ℕ) (t : Tree) : Type 0 where
-  pub tree : IsTree t
-  pub stands : Stands (files img) 1 t
 
 -- the calls that change the tree, as many as there are
 abbrev pub IsChange : Op → Type 0
@@ -48,9 +45,11 @@ most_pairs op = MOST_CALL_PAIRS
 abbrev pub after : Tree → Op → Tree
 after t op = (step t op).1
 
--- the device holds the tree, and has so many inodes: the words are at rest and stand for it, and a crash leaves nothing else
+-- the device holds the tree, and has so many inodes: the words are at rest with nothing staged and stand for it, and a crash leaves
+-- nothing else
 pub record Holds (count : ℕ) (t : Tree) (words : List ℕ) (told : Option History) : Type 0 where
   pub rest : IsAtRest words
+  pub unstaged : IsUnstaged words
   pub stands : StandsFor words t
   pub lasts : NothingPending told
   pub counted : inode_count words ≡ count

@@ -1,6 +1,6 @@
 pub mod Answers
 pub mod Calls
-pub mod Landing
+pub mod Carried
 pub mod Mounted
 pub mod NotMounted
 pub mod Placed

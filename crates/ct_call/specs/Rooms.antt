@@ -1,16 +1,14 @@
 -- What growth gives an object, and room as a whole.
-use Rattle.std.specs.Prelude.{◌≡◌, ℕ, ◌+◌, ◌<◌, ◌≤◌, List, length, Option, Some, None}
+use Rattle.std.specs.Prelude.{◌≡◌, ℕ, ◌+◌, List, length, Option, Some, None}
 use Rattle.ct_base.specs.Inode.{inode, part}
 use Rattle.ct_base.specs.Plan.{growth_need, next_part}
 use Rattle.ct_base.specs.View.{view, inode_count}
 use Rattle.ct_frames.specs.Free.{FreePages}
-use Rattle.ct_base.specs.Walk.{page_at, word}
 use Rattle.ct_base.specs.Wants.{Want}
-use Rattle.ct_base.specs.declared.layout.TheConstants.{PAGE_WORDS}
 use Rattle.ct_grow.specs.Grown.{CellsMoved, Promoted}
 use Rattle.ct_tree.specs.Lands.{files}
 use Rattle.ct_walk.specs.Has.{HasAll}
-use Rattle.ct_call.specs.Mounted.{IsAtRest}
+use Rattle.ct_commit.specs.Rest.{IsAtRest}
 use Rattle.ct_call.specs.Placed.{IsMoved}
 use Rattle.ct_call.specs.Plans.{part_then}
 
@@ -33,9 +31,3 @@ pub record MakesRoom (old new : List ℕ) (i : ℕ) (growth : Option ℕ) (asked
   pub files : files new ≡ files old
   pub counted : inode_count new ≡ inode_count old
   pub rest : IsAtRest new
-
--- each cell, page 0 and the length stay
-pub record KeepsTables (old new : List ℕ) : Type 0 where
-  pub cells : (d x : ℕ) → d ≤ 4 → page_at new d x ≡ page_at old d x
-  pub head : (w : ℕ) → w < PAGE_WORDS → word new w ≡ word old w
-  pub size : length new ≡ length old

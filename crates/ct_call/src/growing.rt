@@ -4,14 +4,12 @@ ghost use Rattle.ct_base.specs.Causes.{HasCause};
 ghost use Rattle.ct_base.specs.Inode.{inode as inode_at};
 ghost use Rattle.ct_base.specs.Plan.{growth_need};
 ghost use Rattle.ct_base.specs.View.{view};
-ghost use Rattle.ct_frames.specs.Agrees.{Agrees};
 ghost use Rattle.ct_grow.specs.Grown.{CanGrow};
-ghost use Rattle.ct_pm.specs.Device.{NothingPending};
 ghost use Rattle.ct_pm.specs.Phase.{Phase};
 ghost use Rattle.ct_record.specs.Seen.{device_behind};
 ghost use Rattle.ct_tree.specs.Lands.{files};
-ghost use Rattle.ct_call.specs.Landing.{LandsAs};
-ghost use Rattle.ct_call.specs.Mounted.{IsAtRest};
+ghost use Rattle.ct_commit.specs.Landing.{LandsAs};
+ghost use Rattle.ct_commit.specs.Rest.{IsMounted};
 ghost use Rattle.ct_call.specs.Rooms.{Gives};
 
 use ct_base::MOST_GROWTH_PAIRS;
@@ -31,17 +29,13 @@ pub fn grow<D: Pm>(
     object: u64,
     growth: Option<u32>,
 ) -> Result<D, Broken<D>>
-    requires rest { IsAtRest (D.words dev) }
-    requires agrees { Agrees (D.words dev) frames.old }
-    requires settled { NothingPending (D.told dev) }
+    requires mounted { IsMounted (D.words dev) (D.told dev) frames.old }
     requires can { (level : ℕ) → growth ≡ Some level → CanGrow (D.words dev) object level
         × (growth_need (D.words dev) (inode_at (view (D.words dev)) object) level ≤ length frames.old.free) }
 
     ensures gives { OnOk result (Gives (D.words dev) (D.words (device_behind result)) frames.old frames.new object growth) }
-    ensures rest { OnOk result (IsAtRest (D.words (device_behind result))) }
+    ensures mounted { OnOk result (IsMounted (D.words (device_behind result)) (D.told (device_behind result)) frames.new) }
     ensures files { OnOk result (files (D.words (device_behind result)) ≡ files (D.words dev)) }
-    ensures agrees { OnOk result (Agrees (D.words (device_behind result)) frames.new) }
-    ensures settled { OnOk result (NothingPending (D.told (device_behind result))) }
 
     // A crash at any moment lands on the objects that there are.
     ensures phase { Phase (LandsAs (files (D.words dev))) MOST_GROWTH_PAIRS (D.told dev) (D.told (device_behind result)) (D.words (device_behind result)) }

@@ -4,6 +4,7 @@
 //! is refused by it, and makes room by it; while it goes on a crash lands on the objects before it or after it.
 #![tactic(auto)]
 
+mod ending;
 mod growing;
 mod making;
 mod mount;
@@ -11,6 +12,7 @@ mod pages;
 mod plan;
 mod space;
 
+pub use ending::{ended, refused};
 pub use growing::grow;
 pub use making::room;
 pub use mount::{Failed, FsError, Mounted, NoMount, State, Why};

@@ -4,13 +4,11 @@ ghost use Rattle.ct_base.specs.Causes.{HasCause};
 ghost use Rattle.ct_base.specs.Inode.{inode as inode_at};
 ghost use Rattle.ct_base.specs.View.{view};
 ghost use Rattle.ct_base.specs.Wants.{missing};
-ghost use Rattle.ct_frames.specs.Agrees.{Agrees};
-ghost use Rattle.ct_pm.specs.Device.{NothingPending};
 ghost use Rattle.ct_pm.specs.Phase.{Phase};
 ghost use Rattle.ct_record.specs.Seen.{device_behind};
 ghost use Rattle.ct_tree.specs.Lands.{files};
-ghost use Rattle.ct_call.specs.Landing.{LandsAs};
-ghost use Rattle.ct_call.specs.Mounted.{IsAtRest};
+ghost use Rattle.ct_commit.specs.Landing.{LandsAs};
+ghost use Rattle.ct_commit.specs.Rest.{IsMounted};
 ghost use Rattle.ct_call.specs.Plans.{Asks, Fits, level_of};
 ghost use Rattle.ct_call.specs.Rooms.{MakesRoom};
 
@@ -33,17 +31,14 @@ pub fn room<D: Pm>(
     object: u64,
     plan: &CallPlan,
 ) -> Result<D, Broken<D>>
-    requires rest { IsAtRest (D.words dev) }
-    requires agrees { Agrees (D.words dev) frames.old }
-    requires settled { NothingPending (D.told dev) }
+    requires mounted { IsMounted (D.words dev) (D.told dev) frames.old }
     requires fits { Fits (D.words dev) frames.old plan.now }
     requires asks { Asks (D.words dev) object (inode_at (view (D.words dev)) object) (level_of plan.now.growth) plan.now.wants plan.now.rest }
 
     ensures room { OnOk result (MakesRoom (D.words dev) (D.words (device_behind result)) object (level_of plan.now.growth) plan.now.rest) }
     // Exactly the pages were taken that the plan counts.
     ensures taken { OnOk result (length frames.new.free + missing (D.words dev) plan.now.wants ≡ length frames.old.free) }
-    ensures agrees { OnOk result (Agrees (D.words (device_behind result)) frames.new) }
-    ensures settled { OnOk result (NothingPending (D.told (device_behind result))) }
+    ensures mounted { OnOk result (IsMounted (D.words (device_behind result)) (D.told (device_behind result)) frames.new) }
 
     // A crash at any moment lands on the objects that there are.
     ensures phase { Phase (LandsAs (files (D.words dev))) MOST_GROWTH_PAIRS (D.told dev) (D.told (device_behind result)) (D.words (device_behind result)) }

@@ -1,7 +1,8 @@
 // A device that is mounted, and what calls answer.
 ghost use Rattle.std.specs.Prelude.{length};
 ghost use Rattle.ct_base.specs.Settled.{HasPages};
-ghost use Rattle.ct_call.specs.Mounted.{IsMounted, Volume};
+ghost use Rattle.ct_call.specs.Mounted.{Volume};
+ghost use Rattle.ct_commit.specs.Rest.{IsMounted};
 
 use ct_frames::Frames;
 use ct_pm::Pm;

@@ -3,14 +3,13 @@ ghost use Rattle.std.specs.Prelude.{◌≡◌, ℕ, ◌+◌, ◌≤◌, false, l
 ghost use Rattle.ct_base.specs.Causes.{HasCause};
 ghost use Rattle.ct_base.specs.Walk.{page_at};
 ghost use Rattle.ct_base.specs.Wants.{is_wanted, missing};
-ghost use Rattle.ct_frames.specs.Agrees.{Agrees};
-ghost use Rattle.ct_pm.specs.Device.{NothingPending};
 ghost use Rattle.ct_pm.specs.Phase.{Phase};
 ghost use Rattle.ct_state.specs.Alike.{Alike};
 ghost use Rattle.ct_tree.specs.Lands.{files};
 ghost use Rattle.ct_walk.specs.Has.{HasAll};
-ghost use Rattle.ct_call.specs.Landing.{LandsAs};
-ghost use Rattle.ct_call.specs.Mounted.{AreOwned, IsAtRest, OffFiles};
+ghost use Rattle.ct_commit.specs.Landing.{LandsAs};
+ghost use Rattle.ct_call.specs.Mounted.{AreOwned, OffFiles};
+ghost use Rattle.ct_commit.specs.Rest.{IsAtRest, IsMounted};
 
 use ct_frames::Frames;
 use ct_pm::{Pm, PmFault};
@@ -19,9 +18,7 @@ use ct_walk::{Want, ensure_all};
 /// Makes what is missing of wants that lie in live partitions and off the pages of files. What the words stand for stays at every
 /// moment.
 pub fn make_pages<D: Pm>(dev: &mut D, frames: &mut Frames, wants: &[Want]) -> Result<(), PmFault>
-    requires rest { IsAtRest (D.words dev.old) }
-    requires agrees { Agrees (D.words dev.old) frames.old }
-    requires settled { NothingPending (D.told dev.old) }
+    requires mounted { IsMounted (D.words dev.old) (D.told dev.old) frames.old }
     requires owned { AreOwned (D.words dev.old) wants.now }
     requires off { OffFiles (D.words dev.old) wants.now }
     requires room { missing (D.words dev.old) wants.now ≤ length frames.old.free }
@@ -30,8 +27,7 @@ pub fn make_pages<D: Pm>(dev: &mut D, frames: &mut Frames, wants: &[Want]) -> Re
     ensures taken { OnOk result (length frames.new.free + missing (D.words dev.old) wants.now ≡ length frames.old.free) }
     ensures rest { IsAtRest (D.words dev.new) }
     ensures alike { Alike (D.words dev.old) (D.words dev.new) }
-    ensures agrees { OnOk result (Agrees (D.words dev.new) frames.new) }
-    ensures settled { OnOk result (NothingPending (D.told dev.new)) }
+    ensures mounted { OnOk result (IsMounted (D.words dev.new) (D.told dev.new) frames.new) }
     ensures phase { Phase (LandsAs (files (D.words dev.old))) 0 (D.told dev.old) (D.told dev.new) (D.words dev.new) }
     ensures cause { HasCause (D.faults dev.old) (D.faults dev.new) result }
 {

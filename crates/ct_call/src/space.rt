@@ -3,11 +3,10 @@ ghost use Rattle.std.specs.Prelude.{◌≡◌, ℕ, ◌<◌, ◌≤◌, length, 
 ghost use Rattle.ct_base.specs.Free.{HasFreePages};
 ghost use Rattle.ct_base.specs.Plan.{Plan};
 ghost use Rattle.ct_base.specs.Wants.{missing as missing_of};
-ghost use Rattle.ct_frames.specs.Agrees.{Agrees};
 ghost use Rattle.ct_tree.specs.Step.{Op};
 ghost use Rattle.ct_tree.specs.declared.call.Refusal.TheVariants.{NoPages};
 ghost use Rattle.ct_call.specs.Answers.{HasOnlyPlan, LacksInode, SpaceAnswers};
-ghost use Rattle.ct_call.specs.Mounted.{IsAtRest};
+ghost use Rattle.ct_commit.specs.Rest.{IsMounted};
 ghost use Rattle.ct_call.specs.Plans.{Fits, IsGrowth, Plans};
 
 use crate::plan::CallPlan;
@@ -23,8 +22,7 @@ use ct_walk::{Want, missing};
 /// `NoPartition` where the plan grows an object and no partition of the level is free, then `NoPages` where fewer pages are free
 /// than the plan needs.
 pub fn check_space<D: Pm>(dev: &D, frames: &Frames, plan: &CallPlan) -> Result<(), Refusal>
-    requires rest { IsAtRest (D.words dev.now) }
-    requires agrees { Agrees (D.words dev.now) frames.now }
+    requires mounted { IsMounted (D.words dev.now) (D.told dev.now) frames.now }
     requires part { IsGrowth (D.words dev.now) plan.now.growth }
     ensures answer { (op : Op) (p : Plan) → HasOnlyPlan (D.words dev.now) op p → Plans (D.words dev.now) p plan.now → ¬ LacksInode (D.words dev.now) op
         → SpaceAnswers (D.words dev.now) op result }
@@ -40,8 +38,7 @@ pub fn check_space<D: Pm>(dev: &D, frames: &Frames, plan: &CallPlan) -> Result<(
 
 // Whether as many pages are free as are missing.
 fn check_pages<D: Pm>(dev: &D, frames: &Frames, wants: &[Want]) -> Result<(), Refusal>
-    requires rest { IsAtRest (D.words dev.now) }
-    requires agrees { Agrees (D.words dev.now) frames.now }
+    requires mounted { IsMounted (D.words dev.now) (D.told dev.now) frames.now }
     ensures enough { OnOk result (missing_of (D.words dev.now) wants.now ≤ length frames.now.free) }
     ensures lacks { IfErr result (λ r. (free : ℕ) × HasFreePages (D.words dev.now) free × (r ≡ NoPages free (missing_of (D.words dev.now) wants.now))
         × (free < missing_of (D.words dev.now) wants.now)) }

@@ -2,8 +2,7 @@
 use Rattle.std.proofs.Common.{◌≡◌, ℕ, ◌+◌, ◌<◌, List, refl, sym, ap, ◌∙◌, subst, inl, inr, arith}
 use Rattle.std.specs.Prelude.{◌==◌, if◌then◌else◌}
 use Rattle.std.proofs.lemmas.Bool.{cases_eq}
-use Rattle.ct_base.specs.Head.{HeadRule, size, magic, version, count, inodes, spare, gates, targets, head_number, HeadHolds, HasHead}
-use Rattle.ct_state.proofs.States.{head_of}
+use Rattle.ct_base.specs.Head.{HeadRule, size, magic, version, count, inodes, spare, gates, targets, head_number, HeadHolds}
 use Rattle.ct_check.specs.Heads.{HeadsBelow}
 
 abbrev head_at : ℕ → HeadRule
@@ -60,6 +59,3 @@ module _ (img : List ℕ) where
 
   pub below_targets : HeadHolds img size → HeadHolds img magic → HeadHolds img version → HeadHolds img count → HeadHolds img inodes → HeadHolds img spare → HeadHolds img gates → HeadsBelow img 7
   below_targets h i j k l m n = heads_more gates refl (below_gates h i j k l m) n
-
-  pub has_head : HeadsBelow img 7 → HeadHolds img targets → HasHead img
-  has_head below n = head_of (λ r. heads_more targets refl below n r (head_most r))

@@ -2,7 +2,7 @@
 use Rattle.std.proofs.Common.{◌≡◌, ℕ, ◌+◌, ◌<◌, ◌≤◌, List, refl, sym, ap, ◌∙◌, subst, inl, inr, arith}
 use Rattle.std.specs.Prelude.{◌==◌, if◌then◌else◌}
 use Rattle.std.proofs.lemmas.Bool.{cases_eq}
-use Rattle.ct_base.specs.Rules.{Rule, entries, once, inodes, placed, apart, tails, mapped, headers, rest, slots, names, named, reached, number, HoldsAt, Sound}
+use Rattle.ct_base.specs.Rules.{Rule, entries, once, inodes, placed, apart, tails, mapped, headers, rest, slots, names, named, reached, number, HoldsAt}
 use Rattle.ct_check.specs.Rules.{HoldBelow, Tells}
 use Rattle.ct_check.specs.declared.fault.CheckFault.TheVariants.{Damage}
 
@@ -55,22 +55,3 @@ below_more img r e below holds s lt = elim (cases_eq (number r) (number s)) [
 -- the rules below hold and this one does not: it fails first
 pub fails_first : (img : List ℕ) (r : Rule) → HoldBelow img (number r) → (HoldsAt img r → ⊥) → Tells img (Damage (number r))
 fails_first img r below fails = (r, refl, record { fails = fails; before = below })
-
-number_most : (r : Rule) → number r < 21
-number_most entries = omega arith
-number_most once = omega arith
-number_most inodes = omega arith
-number_most placed = omega arith
-number_most apart = omega arith
-number_most tails = omega arith
-number_most mapped = omega arith
-number_most headers = omega arith
-number_most rest = omega arith
-number_most slots = omega arith
-number_most names = omega arith
-number_most named = omega arith
-number_most reached = omega arith
-
--- all rules are below the number after the last
-pub sound_below : (img : List ℕ) → HoldBelow img 21 → Sound img
-sound_below img below r = below r (number_most r)

@@ -181,20 +181,6 @@ module _ {img : List ℕ} {d b b' : ℕ} (t i : ℕ) (low : i < 512) (b_is : b �
     reads_found marked met is_or reads =
         record { deep = reads.deep; names = names_found marked reads.names; walked = walked_found reads.deep met is_or reads.walked }
 
--- a table that is not one of this level has no cell
-pub empty_table : {img : List ℕ} {d : ℕ} {level : List ℕ} (t : ℕ) → IsLevel img d level → is_marked level t ≡ false → AreEmpty img d (t * 512) (t * 512 + 512)
-empty_table {img} {d} {level} t l off = record {
-  order = omega arith;
-  none = λ e y new there. absurd (out e y new there);
-  zero = λ e y new there. absurd (out e y new there);
-}
-  where
-    out : (e y : ℕ) → IsNew img d (t * 512) (t * 512 + 512) e y → page_at img e (y / 512) ≢ 0 → ⊥
-    out e y new there =
-        let table : page_at img e (y / 512) ≡ t = omega (arith, new.from, new.to) in
-        let at : page_at img d (y / 512) ≡ t = ap (λ k. page_at img k (y / 512)) (sym new.at) ∙ table in
-        both_ways _ off (ap (is_marked level) (sym at) ∙ l.all (y / 512) (λ none. there (table ∙ sym at ∙ none)))
-
 -- nor have the pages below the root
 pub empty_head : {img : List ℕ} {d : ℕ} → AreEmpty img d 0 (33 * 512)
 empty_head {img} {d} = record {

@@ -4,9 +4,9 @@ use Rattle.std.specs.Prelude.{slice_index, slice_set, Option, if◌then◌else�
 use Rattle.std.proofs.lemmas.Bool.{and_right, cases_eq, cases_lt, lt-ltb, ne_eqb, or_left}
 use Rattle.ct_base.specs.declared.inode.Inode.{Inode}
 use Rattle.ct_base.specs.Headers.{HeadersStand, StandFor, is_one, without}
-use Rattle.ct_base.specs.Inode.{inode, inode_word, has_part, IsIn, IsNumber, live_parts, number_of, part, part_bytes}
+use Rattle.ct_base.specs.Inode.{has_part, inode, inode_word, IsIn, IsNumber, live_parts, number_of, part, part_bytes, part_end}
 use Rattle.ct_base.specs.Objects.{Object, object, objects}
-use Rattle.ct_base.specs.Rules.{HasRoom, Owns, Rule, number, HoldsAt, Sound, ArePlaced, AreEntries, AreNamesApart, AreNamed, AreReached, part_of, entries, once, inodes, placed, apart, tails, mapped, headers, rest, slots, names, named, reached}
+use Rattle.ct_base.specs.Rules.{apart, AreEntries, AreNamed, AreNamesApart, ArePlaced, AreReached, entries, HasRoom, headers, HoldsAt, inodes, IsMappedInParts, mapped, named, names, number, once, Owns, part_of, placed, reached, rest, Rule, slots, Sound, tails}
 use Rattle.ct_base.specs.Settled.{IsShut}
 use Rattle.ct_base.specs.View.{view, inode_count}
 use Rattle.ct_base.specs.Walk.{word, page_at, AreTables}
@@ -17,39 +17,35 @@ use Rattle.ct_grow.proofs.Listed.{stand_same}
 use Rattle.ct_grow.proofs.Moved.{space_of}
 use Rattle.ct_grow.proofs.Readied.{stands_now}
 use Rattle.ct_header.specs.Drafted.{IsInHeader}
-use Rattle.ct_inode.proofs.Rewritten.{view_outside, word_inside}
+use Rattle.ct_inode.proofs.Rewritten.{view_outside, word_inside, word_outside}
 use Rattle.ct_parts.proofs.Lists.{base-is}
 use Rattle.ct_state.proofs.Bytes.{little-same, objects-cases, objects-in}
 use Rattle.ct_state.proofs.Owners.{owner_one}
-use Rattle.ct_state.proofs.Rebuilt.{live_parts-gone, Vacates, vacated_mapped, vacated_space}
+use Rattle.ct_state.proofs.Rebuilt.{live_parts-gone, rebuilt_objects, vacated_mapped, vacated_space, Vacates, vacates_rebuilt}
 use Rattle.ct_state.proofs.Write.{HasSpace}
 use Rattle.ct_words.proofs.Shown.{little-shown}
 use Rattle.ct_words.specs.Shown.{shown_word}
-use Rattle.ct_base.specs.Inode.{part_end}
-use Rattle.ct_base.specs.Rules.{IsMappedInParts}
 use Rattle.ct_base.specs.State.{SameState}
 use Rattle.ct_frames.specs.Agrees.{Agrees}
 use Rattle.ct_frames.specs.Free.{FreePages}
-use Rattle.ct_inode.proofs.Rewritten.{word_outside}
 use Rattle.ct_stage.proofs.Bridge.{laid_whole}
 use Rattle.ct_state.specs.Alike.{IsWhole}
-use Rattle.ct_state.proofs.Rebuilt.{rebuilt_objects, vacates_rebuilt}
 use Rattle.ct_state.proofs.Written.{Written, entries_stay, names_apart_stay, named_stay, reached_stay}
 use Rattle.ct_tree.specs.Content.{resized}
 use Rattle.ct_tree.specs.Lands.{files}
 use Rattle.ct_tree.specs.Stands.{IsFile}
 use Rattle.ct_tree.proofs.Ordered.{resized_length}
-use Rattle.ct_write.proofs.Ending.{Empties as Ends, empty_alike, empty_byte, empty_length, empty_page, empty_root, empty_shut, empty_slot, empty_whole, empty_word}
+use Rattle.ct_commit.proofs.Emptying.{Empties as Ends, empty_alike, empty_byte, empty_length, empty_page, empty_root, empty_shut, empty_slot, empty_whole, empty_word}
 use Rattle.ct_write.proofs.Reaching.{fresh_agree}
 use Rattle.ct_write.proofs.Sizing.{byte-word}
-use Rattle.ct_write.proofs.Turning.{Turns, end_phase, record_phase, still_phase}
+use Rattle.ct_write.proofs.Turning.{Turns, bare_spares, empty_phase, record_phase}
 use Rattle.ct_write.proofs.Lengthening.{inode_there}
-use Rattle.ct_write.specs.Recorded.{IsBare, SettlesOr}
-use Rattle.ct_write.specs.Turned.{IsStateOr}
+use Rattle.ct_write.specs.Recorded.{IsBare}
+use Rattle.ct_commit.specs.Closed.{IsStateOr}
+use Rattle.ct_commit.specs.Made.{Spares}
 use Rattle.ct_pm.specs.Images.{History}
 use Rattle.ct_pm.specs.Device.{LeavesOnly, MakesOnly}
 use Rattle.ct_pm.specs.Phase.{Phase}
-use Rattle.ct_pm.proofs.Phases.{phase_then}
 use Rattle.ct_cut.specs.Cut.{CanCut, IsCutOrNot, IsEmptied, IsExtent, IsShorter}
 use Rattle.ct_cut.specs.Emptied.{Emptied}
 use Rattle.ct_cut.specs.GivenUp.{GivesUp}
@@ -278,7 +274,7 @@ module _ {w0 w1 w2 : List ℕ} {i : ℕ} (x : Empties w0 w1 w2 i) where
   done = record { can = x.can; vacates = vacates; emptied = is_emptied; kind = kind_now }
 
 -- the slot is emptied
-pub done_empty : {w0 w2 w3 : List ℕ} {i : ℕ} → Ends w2 w3 → Done w0 w2 i → Done w0 w3 i
+pub done_empty : {w0 w2 w3 : List ℕ} {i : ℕ} → Ends w2 w3 2 → Done w0 w2 i → Done w0 w3 i
 done_empty {w0} {w2} {w3} {i} y d =
     let alike = empty_alike y in
     let e = d.emptied in
@@ -297,7 +293,7 @@ done_empty {w0} {w2} {w3} {i} y d =
         unmapped = λ q inside. empty_page y q (λ slot. omega (arith, slot, inside.from, (cut_room d.can).part.low)) ∙ e.unmapped q inside;
         pages = λ q away off. empty_page y q away ∙ e.pages q away off;
         staged = λ v from to. empty_byte y v (omega (arith, to)) (λ slot. omega (arith, slot, from)) ∙ e.staged v from to;
-        roots = λ k from to. empty_root y k from ∙ e.roots k from to;
+        roots = λ k from to. empty_root y k (λ z. omega (arith, z, from)) ∙ e.roots k from to;
         head = λ w lt. empty_word y w (omega arith) ∙ e.head w lt;
         length = empty_length y ∙ e.length;
       };
@@ -401,11 +397,14 @@ module _ {w0 new : List ℕ} {i : ℕ} (d : Done w0 new i) where
 pub emptying_turns : {w0 w1 : List ℕ} {i : ℕ} → CanCut w0 i 0 → Readied w0 w1 (inode (view w0) i) → SameState w0 w1 → Turns w0 w1 (λ after. Emptied w1 after i)
 emptying_turns {w0} {w1} {i} can ready still = record {
   still = still;
-  shut = ready.laid.shut;
-  whole = laid_whole ready.laid;
-  placed = subst (λ b. ArePlaced b (inode_count w1)) (sym ready.seen) (subst (λ (k : ℕ). ArePlaced (view w0) k) (sym (ready.head 3 (omega arith))) (can.ready.rules placed (omega arith)));
-  whole_after = λ w2 e. done_whole (done (record { can = can; readied = ready; emptied = e })) e.gives.tables;
-  placed_after = λ w2 e. done_placed (done (record { can = can; readied = ready; emptied = e }));
+  closed = record {
+    shut = ready.laid.shut;
+    whole = laid_whole ready.laid;
+    placed = subst (λ b. ArePlaced b (inode_count w1)) (sym ready.seen) (subst (λ (k : ℕ). ArePlaced (view w0) k) (sym (ready.head 3 (omega arith))) (can.ready.rules placed (omega arith)));
+  };
+  after = λ w2 e shut.
+      let d = done (record { can = can; readied = ready; emptied = e }) in
+      record { shut = shut; whole = done_whole d e.gives.tables; placed = done_placed d };
   from = λ w2 e q high. from w2 e q high;
 }
   where
@@ -436,20 +435,23 @@ module _ {w0 w1 : List ℕ} {i : ℕ} {start mid : Option History} (can : CanCut
   pub empty_there : page_at w1 4 (64 * i / 4096) ≢ 0
   empty_there none = inode_there w0 i can.ready can.live (sym (ready.pages (64 * i / 4096) (λ slot. omega (arith, slot, can.live.number.to, can.ready.inodes.1))) ∙ none)
 
+  -- no word that the record may name lies on a page of a live file
+  pub empty_spares : Spares w1 (λ after. Emptied w1 after i) (IsBare w1)
+  empty_spares = bare_spares turns
+
   -- up to the end of the record
-  pub empty_told : {now : List ℕ} {told : Option History} → LeavesOnly mid told (SettlesOr w1 (λ after. Emptied w1 after i)) → SettlesOr w1 (λ after. Emptied w1 after i) now → MakesOnly (λ word value. IsBare w1 word) mid told
-      → Phase (IsStateOr w0 (λ after. IsEmptied w0 after i)) 5111 start told now
-  empty_told images reads made = phase_then (still_phase (λ after. IsEmptied w0 after i) before) (record_phase (λ after. IsEmptied w0 after i) turns after_is images reads made)
+  pub empty_told : {now : List ℕ} {told : Option History} → Phase (IsStateOr w1 (λ after. Emptied w1 after i)) 5111 mid told now → Phase (IsStateOr w0 (λ after. IsEmptied w0 after i)) 5111 start told now
+  empty_told phase = record_phase turns (λ after. IsEmptied w0 after i) after_is before phase
 
   module _ {w2 : List ℕ} (e : Emptied w1 w2 i) (shut : IsShut w2) where
     -- and while the slot is emptied
     pub empty_end : {now : List ℕ} {later told : Option History} → Phase (IsStateOr w0 (λ after. IsEmptied w0 after i)) 5111 start later w2 → LeavesOnly later told (λ image. (image ≡ w2) ⊎ (image ≡ slice_set w2 16898 0)) → (now ≡ w2) ⊎ (now ≡ slice_set w2 16898 0)
         → MakesOnly (λ at put. (at ≡ 16898) × (put ≡ 0)) later told → Phase (IsStateOr w0 (λ after. IsEmptied w0 after i)) 5111 start told now
-    empty_end phase images reads made = phase_then phase (end_phase (λ after. IsEmptied w0 after i) turns after_is e shut images reads made)
+    empty_end phase images reads made = empty_phase turns (λ after. IsEmptied w0 after i) after_is e shut phase images reads made
 
     module _ {w3 : List ℕ} (is : w3 ≡ slice_set w2 16898 0) where
-      ends : Ends w2 w3
-      ends = record { shut = shut; whole = turns.whole_after w2 e; is = is }
+      ends : Ends w2 w3 2
+      ends = record { closed = turns.after w2 e shut; from = omega arith; to = omega arith; is = is }
 
       pub last_done : Done w0 w3 i
       last_done = done_empty ends (done (record { can = can; readied = ready; emptied = e }))

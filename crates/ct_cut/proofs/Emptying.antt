@@ -6,7 +6,7 @@ use Rattle.ct_base.specs.Settled.{Named, Pair, with_pairs}
 use Rattle.ct_base.specs.View.{view}
 use Rattle.ct_base.specs.Walk.{page_at, AreTables}
 use Rattle.ct_base.specs.Words.{Rewrites, pairs_to, place_at}
-use Rattle.ct_grow.proofs.Carried.{off_record}
+use Rattle.ct_commit.proofs.States.{off_record}
 use Rattle.ct_grow.proofs.Placing.{names_append, names_beside, names_leave, names_none, names_run}
 use Rattle.ct_grow.specs.Drafted.{NamePlaces}
 use Rattle.ct_image.proofs.Beside.{Beside, beside_cells, beside_tables}

@@ -12,7 +12,7 @@ use Rattle.ct_base.specs.Published.{header_words}
 use Rattle.ct_base.specs.Settled.{Named, Pair, with_pairs}
 use Rattle.ct_base.specs.View.{is_seen, view}
 use Rattle.ct_base.specs.Walk.{byte, page_at, AreTables}
-use Rattle.ct_grow.proofs.Carried.{off_record}
+use Rattle.ct_commit.proofs.States.{off_record}
 use Rattle.ct_grow.proofs.Heads.{header_place, path_bounds, unmapped}
 use Rattle.ct_grow.proofs.Listed.{stand_same}
 use Rattle.ct_grow.proofs.Placed.{drafted_superblock}

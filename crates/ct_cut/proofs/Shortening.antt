@@ -22,7 +22,7 @@ use Rattle.ct_tree.specs.Content.{resized}
 use Rattle.ct_tree.specs.Lands.{files}
 use Rattle.ct_tree.specs.Stands.{IsFile}
 use Rattle.ct_tree.proofs.Ordered.{resized_length}
-use Rattle.ct_write.specs.Turned.{IsStateOr}
+use Rattle.ct_commit.specs.Closed.{IsStateOr}
 use Rattle.ct_write.specs.Written.{CanWrite, IsEdited, edit_of, side_page, stage_page}
 use Rattle.ct_write.proofs.Changing.{bytes_had, file_now}
 use Rattle.ct_write.proofs.Done.{IsSize, changing}

@@ -12,7 +12,7 @@ use Rattle.ct_base.specs.Wants.{Want}
 use Rattle.ct_grow.specs.Grown.{IsReady}
 use Rattle.ct_header.specs.Drafted.{IsInHeader}
 use Rattle.ct_stage.specs.declared.edit.Given.TheVariants.{Same}
-use Rattle.ct_write.specs.Turned.{IsStateOr}
+use Rattle.ct_commit.specs.Closed.{IsStateOr}
 use Rattle.ct_write.specs.Written.{IsEdited}
 
 -- The call may be made: the rules on inodes, partitions and headers hold, both gates are closed and root slot 2 is empty,

@@ -7,9 +7,12 @@ ghost use Rattle.ct_base.specs.View.{view};
 ghost use Rattle.ct_base.specs.Walk.{page_at, AreTables};
 ghost use Rattle.ct_cut.specs.Emptied.{Emptied};
 ghost use Rattle.ct_cut.specs.GivenUp.{CanGiveUp};
-ghost use Rattle.ct_pm.specs.Device.{LeavesOnly, MakesOnly, NothingPending};
+ghost use Rattle.ct_commit.specs.Closed.{IsStateOr};
+ghost use Rattle.ct_commit.specs.Made.{Spares};
+ghost use Rattle.ct_pm.specs.Device.{NothingPending};
+ghost use Rattle.ct_pm.specs.Phase.{Phase};
 ghost use Rattle.ct_record.specs.Seen.{Drafts, count_of, device_behind, drafted, faults_under, pairs_of, words_under};
-ghost use Rattle.ct_write.specs.Recorded.{IsBare, SettlesOr};
+ghost use Rattle.ct_write.specs.Recorded.{IsBare};
 
 use crate::draft::give_up;
 use ct_base::{INODE_BYTES, MOST_CALL_PAIRS, MOST_INODES, NO_PARTITION, PAGE_BYTES};
@@ -49,14 +52,13 @@ pub fn empty_now<D: Pm>(dev: D, inode: u64) -> Result<D, Broken<D>>
     requires to { inode ≤ MOST_INODES }
     requires there { page_at (D.words dev) 4 (INODE_BYTES * inode / PAGE_BYTES) ≢ 0 }
     requires can { CanGiveUp (D.words dev) (inode_at (view (D.words dev)) inode) }
+    requires spares { Spares (D.words dev) (λ new. Emptied (D.words dev) new inode) (IsBare (D.words dev)) }
     ensures emptied { OnOk result (Emptied (D.words dev) (D.words (device_behind result)) inode) }
     ensures shut { OnOk result (IsShut (D.words (device_behind result))) }
     ensures settled { OnOk result (NothingPending (D.told (device_behind result))) }
 
-    // A crash at any moment leaves a lawful record of few pairs, and settles to the words before it or after it.
-    ensures any_moment { LeavesOnly (D.told dev) (D.told (device_behind result)) (SettlesOr (D.words dev) (λ after. Emptied (D.words dev) after inode)) }
-    ensures reads { SettlesOr (D.words dev) (λ after. Emptied (D.words dev) after inode) (D.words (device_behind result)) }
-    ensures made { MakesOnly (λ word value. IsBare (D.words dev) word) (D.told dev) (D.told (device_behind result)) }
+    // A crash at any moment settles to the state before the record or after it.
+    ensures phase { Phase (IsStateOr (D.words dev) (λ new. Emptied (D.words dev) new inode)) MOST_CALL_PAIRS (D.told dev) (D.told (device_behind result)) (D.words (device_behind result)) }
     ensures cause { HasCause (D.faults dev) (D.faults (device_behind result)) result }
 {
     let mut draft = Draft::begin(Idle::of(dev));

@@ -7,7 +7,7 @@ ghost use Rattle.ct_base.specs.View.{view};
 ghost use Rattle.ct_base.specs.Wants.{missing};
 ghost use Rattle.ct_base.specs.Plan.{cut_wants, give_up_wants};
 ghost use Rattle.ct_cut.specs.Cut.{CanCut, IsCut, IsCutOrNot, IsEmptied, IsShorter, less_wants};
-ghost use Rattle.ct_write.specs.Turned.{IsStateOr};
+ghost use Rattle.ct_commit.specs.Closed.{IsStateOr};
 ghost use Rattle.ct_frames.specs.Agrees.{Agrees};
 ghost use Rattle.ct_grow.specs.Grown.{IsReady};
 ghost use Rattle.ct_pm.specs.Device.{NothingPending};

@@ -1,5 +1,5 @@
 -- The entries of a directory and its first empty slot, past slots that are known.
-use Rattle.std.proofs.Common.{◌≡◌, ◌≢◌, ℕ, zero, suc, ◌+◌, ◌-◌, ◌*◌, ◌/◌, ◌%◌, ◌<◌, ◌≤◌, List, length, refl, sym, ap, subst, ◌∙◌, inl, inr, arith}
+use Rattle.std.proofs.Common.{◌≡◌, ◌≢◌, ℕ, zero, suc, ◌+◌, ◌-◌, ◌*◌, ◌/◌, ◌%◌, ◌<◌, ◌≤◌, ◌⊎◌, List, length, refl, sym, ap, subst, ◌∙◌, inl, inr, arith}
 use Rattle.std.proofs.lemmas.Bool.{cases_eq, cases_lt, eq-eqb, ne_eqb}
 use Rattle.ct_base.specs.Inode.{little}
 use Rattle.ct_base.specs.Objects.{Object}
@@ -137,3 +137,27 @@ count_all f = ap (λ k. length (entries_from f 0 (k / 256))) (omega arith)
 
 pub free_all : (f : Object) → free_from f 0 ≡ free_slot f
 free_all f = ap (λ k. free_slot_from f 0 (k / 256)) (omega arith)
+
+-- the first empty slot of those before an offset, or the offset where all of them are used
+abbrev pub IsFirstFree : Object → ℕ → ℕ → Type 0
+IsFirstFree f at free = ((free ≡ at) × (free_from f at ≡ free_from f 0)) ⊎ ((free < at) × (free ≡ free_from f 0))
+
+-- past a slot that the walk met
+pub first_more : {img : List ℕ} {dir : Inode} {at after : ℕ} {slot : Slot} (free next : ℕ) → IsReadable img dir → Brings img dir at after slot → at % 256 ≡ 0
+    → (slot.offset ≡ free → next ≡ free + 256) → (slot.offset ≢ free → next ≡ free) → IsFirstFree (dir_of img dir) at free → IsFirstFree (dir_of img dir) after next
+first_more {img} {dir} {at} {after} {slot} free next readable b aligned met other (inl here) = elim (cases_eq slot.offset at) [
+  | inl is ↦ inl (omega (arith, met (is ∙ sym here.0), here.0, is, b.to), free_more readable b is here.1)
+  | inr ne ↦
+      let stays : next ≡ free = other (λ is. ne (is ∙ here.0)) in
+      inr (omega (arith, stays, here.0, b.to, b.from), stays ∙ here.0 ∙ free_found readable b ne aligned here.1)
+]
+first_more {img} {dir} {at} {after} {slot} free next readable b aligned met other (inr past) =
+    let stays : next ≡ free = other (λ is. omega (arith, is, past.0, b.from)) in
+    inr (omega (arith, stays, past.0, b.to, b.from), stays ∙ past.1)
+
+-- and where no slot is left
+pub first_end : {img : List ℕ} {dir : Inode} {at : ℕ} (free : ℕ) → IsReadable img dir → at % 256 ≡ 0 → at ≤ dir.size → AreEmpty (dir_of img dir) at dir.size
+    → IsFirstFree (dir_of img dir) at free → free ≡ free_slot (dir_of img dir)
+first_end {img} {dir} {at} free readable aligned le empty (inl here) =
+    here.0 ∙ sym (free_end (dir_of img dir) at (whole_dir img dir readable) aligned le empty) ∙ here.1 ∙ free_all (dir_of img dir)
+first_end {img} {dir} {at} free readable aligned le empty (inr past) = past.1 ∙ free_all (dir_of img dir)

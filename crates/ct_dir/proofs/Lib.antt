@@ -1,4 +1,3 @@
-pub mod Checked
 pub mod Choosing
 pub mod Counting
 pub mod Held

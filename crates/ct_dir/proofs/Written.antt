@@ -7,11 +7,10 @@ use Rattle.std.proofs.lemmas.Bool.{cases_lt, and_parts, ltb-true, leb-true}
 use Rattle.ct_base.specs.Inode.{little}
 use Rattle.ct_base.specs.Objects.{Object}
 use Rattle.ct_base.specs.Path.{is_name}
-use Rattle.ct_base.specs.Slots.{IsSlot, bytes_from, slot_inode, slot_length, slot_name}
+use Rattle.ct_base.specs.Slots.{bytes_from, slot_inode, slot_length, slot_name}
 use Rattle.ct_state.proofs.Bytes.{little-below, little-none, little-zero}
 use Rattle.ct_state.proofs.Words.{little-digits}
 use Rattle.ct_dir.proofs.Texts.{bytes_from-text, get_or-end, little-byte, length-slot_words, slot_words-head, slot_words-at}
-use Rattle.ct_dir.specs.Directory.{IsText}
 use Rattle.ct_dir.specs.Packed.{slot_words}
 
 pub record IsWritten (f : Object) (o inode : ℕ) (x : List ℕ) : Type 0 where
@@ -96,19 +95,3 @@ module _ {f : Object} {o inode : ℕ} {x : List ℕ} (w : IsWritten f o inode x)
   written_used none =
       let zeros : slot_inode f o ≡ 0 = little-zero f.at o 4 (λ k lt. little-none f.at o 256 k none (omega arith)) in
       omega (arith, written_inode, zeros, w.some)
-
-  pub written_slot : f.kind ≡ 2 → o < f.size → o % 256 ≡ 0 → IsSlot f o
-  written_slot kind below aligned = record { dir = kind; below = below; aligned = aligned; used = written_used }
-
-  pub written_text : IsText f o
-  written_text =
-      record {
-        some = λ none. omega (arith, written_inode, none, w.some);
-        length = omega (arith, written_length, (is_name-length x w.name).1);
-        name = ap is_name written_name ∙ w.name;
-        padding = λ k low high. written_padding k (omega (arith, written_length, low)) high;
-      }
-
--- a slot whose bytes are all 0 is no used one
-pub cleared_slot : {f : Object} {o : ℕ} → ((k : ℕ) → k < 256 → f.at (o + k) ≡ 0) → IsSlot f o → ⊥
-cleared_slot {f} {o} zeros s = s.used (little-zero f.at o 256 zeros)

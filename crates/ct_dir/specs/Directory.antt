@@ -6,13 +6,16 @@ use Rattle.std.specs.declared.cmp.Ordering.TheVariants.{Less}
 use Rattle.ct_base.specs.declared.inode.Inode.{Inode}
 use Rattle.ct_base.specs.declared.TheConstants.{NAME_BYTES}
 use Rattle.ct_base.specs.declared.layout.TheConstants.{DIRECTORY_KIND, ENTRY_BYTES}
+use Rattle.ct_base.specs.Named.{Named}
 use Rattle.ct_base.specs.Objects.{Object, object_of}
 use Rattle.ct_base.specs.Path.{is_name, name_cmp}
 use Rattle.ct_base.specs.Rules.{IsPlaced}
-use Rattle.ct_base.specs.Slots.{IsSlot, slot_inode, slot_length, slot_name}
+use Rattle.ct_base.specs.Slots.{IsSlot, free_slot, slot_inode, slot_length, slot_name}
 use Rattle.ct_base.specs.View.{view}
 use Rattle.ct_base.specs.Walk.{AreTables}
 use Rattle.ct_dir.specs.declared.lookup.Found.{Found}
+use Rattle.ct_dir.specs.declared.lookup.NameSlot.{NameSlot}
+use Rattle.ct_dir.specs.declared.lookup.NameSlot.TheVariants.{Free, Taken}
 
 -- the directory of an inode
 abbrev pub dir_of : List ℕ → Inode → Object
@@ -46,6 +49,11 @@ pub record IsFirst (f : Object) (x : List ℕ) (found : Found) : Type 0 where
   pub name : slot_name f found.offset ≡ x
   pub inode : slot_inode f found.offset ≡ found.inode
   pub first : HaveOther f x found.offset
+
+-- the slot of a name: the first that has it, or the first empty one where none has it
+abbrev pub IsSpot : Object → List ℕ → NameSlot → Type 0
+IsSpot f x (Taken found) = IsFirst f x found
+IsSpot f x (Free offset) = (Named f x → ⊥) × (offset ≡ free_slot f)
 
 -- the name that may be lent
 abbrev pub name_in : Option (Bor (List ℕ)) → Option (List ℕ)

@@ -14,5 +14,5 @@ mod slots;
 
 pub use change::{clear, set};
 pub use count::{entries, free_slot};
-pub use lookup::{Found, find, name_at};
+pub use lookup::{Found, NameSlot, find, name_at, spot};
 pub use order::next_after;

@@ -33,10 +33,6 @@ short_path path (Dir es) h = path_fits path (are_short (placed_in path es)) h
 bytes_below : (dir name : List ℕ) → are_bytes dir ≡ true → are_bytes name ≡ true → are_bytes (path_below dir name) ≡ true
 bytes_below dir name a b = list_all-append (λ x. nat_lt x 256) dir (47 ∷ name) ∙ and_true (are_bytes dir) (are_bytes (47 ∷ name)) a b
 
-some_node : (n : Tree) → 1 ≤ nodes n
-some_node (File bytes) = omega arith
-some_node (Dir es) = omega arith
-
 -- entries of a directory that follow those which are there
 record AreNext (c : ℕ) (t : Tree) (dir : List ℕ) (front es : Entries) : Type 0 where
   place : IsPlace dir

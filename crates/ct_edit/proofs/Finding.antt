@@ -18,7 +18,7 @@ use Rattle.ct_tree.specs.Tree.{Tree, File, Dir}
 use Rattle.ct_tree.specs.declared.call.Refusal.{Refusal}
 use Rattle.ct_tree.specs.declared.call.Refusal.TheVariants.{IsDir, BadPath as bad}
 use Rattle.ct_call.specs.Calls.{StandsFor}
-use Rattle.ct_call.specs.Mounted.{IsAtRest}
+use Rattle.ct_commit.specs.Rest.{IsAtRest}
 use Rattle.ct_edit.specs.Found.{IsFileAt, IsNoFile}
 
 some_names : (o : Option (List (List ℕ))) → o ≢ None → is_none o ≡ Rattle.std.specs.Prelude.false

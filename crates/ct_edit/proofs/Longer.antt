@@ -16,8 +16,8 @@ use Rattle.ct_write.specs.Lengthened.{CanLengthen, IsLengthened, IsLengthenedOrN
 use Rattle.ct_write.proofs.Changing.{changed_sound}
 use Rattle.ct_write.proofs.Lengthening.{file_lengthened, lengthening}
 use Rattle.ct_call.proofs.Rooms.{ready_here}
-use Rattle.ct_call.specs.Landing.{LandsAs}
-use Rattle.ct_call.specs.Mounted.{IsAtRest}
+use Rattle.ct_commit.specs.Landing.{LandsAs}
+use Rattle.ct_commit.specs.Rest.{IsAtRest, IsUnstaged}
 use Rattle.ct_call.specs.Plans.{Fits, Plans, level_of}
 use Rattle.ct_call.specs.Rooms.{Gives}
 use Rattle.ct_call.specs.declared.plan.CallPlan.{CallPlan}
@@ -27,10 +27,11 @@ use Rattle.ct_edit.proofs.Rewritten.{Remade, edit_phase, others_stay}
 use Rattle.ct_edit.proofs.Widened.{Plots, Starts, counts_grown, next_holds, next_is, stays_in}
 
 -- the plan of a greater length
-pub plots : {w : List ℕ} {before : FreePages} {i : ℕ} {plan : CallPlan} (len : ℕ) → IsAtRest w → IsLive (view w) (inode_count w) i → (inode (view w) i).kind ≡ 1 → (inode (view w) i).size < len → len ≤ 2 ^ 39
+pub plots : {w : List ℕ} {before : FreePages} {i : ℕ} {plan : CallPlan} (len : ℕ) → IsAtRest w → IsUnstaged w → IsLive (view w) (inode_count w) i → (inode (view w) i).kind ≡ 1 → (inode (view w) i).size < len → len ≤ 2 ^ 39
     → Plans w (truncate_plan (view w) (inode_count w) (inode (view w) i) len) plan → Fits w before plan → Plots w before i len (λ new. []) plan
-plots {w} {i = i} {plan = plan} len rest live file more within plans fits = record {
+plots {w} {i = i} {plan = plan} len rest unstaged live file more within plans fits = record {
   rest = rest;
+  unstaged = unstaged;
   live = live;
   file = file;
   within = within;
@@ -48,13 +49,13 @@ module _ {w mid : List ℕ} {before middle : FreePages} {i len : ℕ} {plan : Ca
       at : (o : Option ℕ) → level_of plan.growth ≡ o → Gives w mid before middle i o → CanLengthen mid i len
       at None goes gave =
           let room = stays_in p goes in
-          subst (λ img. CanLengthen img i len) (sym gave.0) (record { ready = ready_here p.rest; live = p.live; file = p.file; level = room.0.part.level; more = more; fits = room.1 })
+          subst (λ img. CanLengthen img i len) (sym gave.0) (record { ready = ready_here p.rest p.unstaged; live = p.live; file = p.file; level = room.0.part.level; more = more; fits = room.1 })
       at (Some level) goes gave =
           let pr = gave.promoted in
           let count : inode_count mid ≡ inode_count w = pr.superblock 3 (omega arith) in
           let is = next_is p level goes in
           record {
-            ready = ready_here s.now;
+            ready = s.now;
             live = record { number = record { from = p.live.number.from; to = omega (arith, p.live.number.to, count) }; used = λ z. p.live.used (sym pr.kind ∙ z) };
             file = pr.kind ∙ p.file;
             level = omega (arith, pr.level, is.0.level);

@@ -13,7 +13,8 @@ use Rattle.ct_grow.specs.Follows.{write_asks}
 use Rattle.ct_write.proofs.Following.{grown_can}
 use Rattle.ct_write.specs.Written.{CanWrite}
 use Rattle.ct_call.proofs.Rooms.{ready_here}
-use Rattle.ct_call.specs.Mounted.{IsAtRest}
+use Rattle.ct_grow.specs.Grown.{IsReady}
+use Rattle.ct_commit.specs.Rest.{IsAtRest, IsUnstaged}
 use Rattle.ct_call.specs.Plans.{Fits, Plans, level_of}
 use Rattle.ct_call.specs.Rooms.{Gives}
 use Rattle.ct_call.specs.declared.plan.CallPlan.{CallPlan}
@@ -21,10 +22,11 @@ use Rattle.ct_edit.proofs.Growths.{plan_some}
 use Rattle.ct_edit.proofs.Widened.{Plots, Starts, counts_grown, counts_here, enlarges, next_holds, next_is, starts, stays_in}
 
 -- the plan of a write of at least one byte, as the function has it
-pub plots : {w : List ℕ} {before : FreePages} {i told : ℕ} {plan : CallPlan} (off len : ℕ) → IsAtRest w → IsLive (view w) (inode_count w) i → (inode (view w) i).kind ≡ 1 → told ≡ len → told ≢ 0 → off + len ≤ 2 ^ 39
+pub plots : {w : List ℕ} {before : FreePages} {i told : ℕ} {plan : CallPlan} (off len : ℕ) → IsAtRest w → IsUnstaged w → IsLive (view w) (inode_count w) i → (inode (view w) i).kind ≡ 1 → told ≡ len → told ≢ 0 → off + len ≤ 2 ^ 39
     → Plans w (write_plan (view w) (inode_count w) (inode (view w) i) off len) plan → Fits w before plan → Plots w before i (off + len) (write_wants (inode (view w) i) off len) plan
-plots {w} {i = i} {plan = plan} off len rest live file is some within plans fits = record {
+plots {w} {i = i} {plan = plan} off len rest unstaged live file is some within plans fits = record {
   rest = rest;
+  unstaged = unstaged;
   live = live;
   file = file;
   within = within;
@@ -37,10 +39,10 @@ pub record Opens (w mid : List ℕ) (before middle : FreePages) (i off len : ℕ
   pub starts : Starts w mid before middle i (off + len) (write_wants (inode (view w) i) off len) plan
   pub some : 1 ≤ len
 
-pub opens : {w mid : List ℕ} {before middle : FreePages} {i told : ℕ} {grown : Option ℕ} {plan : CallPlan} (off len : ℕ) → IsAtRest w → IsLive (view w) (inode_count w) i → (inode (view w) i).kind ≡ 1 → told ≡ len → told ≢ 0 → off + len ≤ 2 ^ 39
-    → Plans w (write_plan (view w) (inode_count w) (inode (view w) i) off len) plan → Fits w before plan → grown ≡ level_of plan.growth → Gives w mid before middle i grown → IsAtRest mid → Opens w mid before middle i off len plan
-opens off len rest live file is some within plans fits level gave now =
-    record { starts = starts (plots off len rest live file is some within plans fits) level gave now; some = omega (arith, is, some) }
+pub opens : {w mid : List ℕ} {before middle : FreePages} {i told : ℕ} {grown : Option ℕ} {plan : CallPlan} (off len : ℕ) → IsAtRest w → IsUnstaged w → IsLive (view w) (inode_count w) i → (inode (view w) i).kind ≡ 1 → told ≡ len → told ≢ 0 → off + len ≤ 2 ^ 39
+    → Plans w (write_plan (view w) (inode_count w) (inode (view w) i) off len) plan → Fits w before plan → grown ≡ level_of plan.growth → Gives w mid before middle i grown → IsReady mid → Opens w mid before middle i off len plan
+opens off len rest unstaged live file is some within plans fits level gave now =
+    record { starts = starts (plots off len rest unstaged live file is some within plans fits) level gave now; some = omega (arith, is, some) }
 
 module _ {w mid : List ℕ} {before middle : FreePages} {i off len : ℕ} {plan : CallPlan} (o : Opens w mid before middle i off len plan) where
   abbrev s : Starts w mid before middle i (off + len) (write_wants (inode (view w) i) off len) plan
@@ -66,8 +68,8 @@ module _ {w mid : List ℕ} {before middle : FreePages} {i off len : ℕ} {plan 
       at : (o : Option ℕ) → level_of plan.growth ≡ o → Gives w mid before middle i o → CanWrite mid i off len
       at None goes gave =
           let room = stays_in p goes in
-          subst (λ img. CanWrite img i off len) (sym gave.0) (record { ready = ready_here p.rest; live = p.live; file = p.file; level = room.0.part.level; some = some; fits = room.1 })
-      at (Some level) goes gave = grown_can p.live p.file (next_is p level goes).0 (ready_here s.now) gave.promoted some (next_holds p level goes)
+          subst (λ img. CanWrite img i off len) (sym gave.0) (record { ready = ready_here p.rest p.unstaged; live = p.live; file = p.file; level = room.0.part.level; some = some; fits = room.1 })
+      at (Some level) goes gave = grown_can p.live p.file (next_is p level goes).0 s.now gave.promoted some (next_holds p level goes)
 
   -- what is missing now, and what growth took, is what the plan counted
   account : missing mid (write_wants (inode (view mid) i) off len (part (inode (view mid) i))) + length before.free ≡ length middle.free + missing w plan.wants

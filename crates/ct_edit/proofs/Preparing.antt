@@ -19,19 +19,16 @@ use Rattle.ct_tree.specs.Content.{bytes_in, resized, written}
 use Rattle.ct_tree.specs.Lands.{files}
 use Rattle.ct_tree.specs.Need.{HasPlan, IsAt, NeedsRoomIn}
 use Rattle.ct_tree.specs.Resolve.{put}
-use Rattle.ct_tree.specs.Runs.{WantsSpace}
 use Rattle.ct_tree.specs.Step.{effect, file_limit, refusal, size_at}
 use Rattle.ct_tree.specs.Stands.{IsFile}
 use Rattle.ct_tree.specs.Tree.{Tree, File}
 use Rattle.ct_tree.specs.declared.call.Refusal.{Refusal}
 use Rattle.ct_tree.specs.declared.call.Refusal.TheVariants.{TooBig}
-use Rattle.ct_write.specs.declared.data.Data.{Data}
-use Rattle.ct_write.specs.Written.{data_len}
 use Rattle.ct_call.proofs.Spaced.{only_need}
 use Rattle.ct_call.specs.Answers.{HasOnlyPlan, LacksInode}
-use Rattle.ct_call.specs.Calls.{StandsFor}
-use Rattle.ct_call.specs.Mounted.{IsAtRest}
-use Rattle.ct_call.specs.Placed.{EntersAt, IsMoved, IsTouched, Places, Replaces}
+use Rattle.ct_call.specs.Calls.{IsChange, StandsFor}
+use Rattle.ct_commit.specs.Rest.{IsAtRest}
+use Rattle.ct_call.specs.Placed.{EntersAt, IsMoved, Places, Replaces}
 use Rattle.ct_call.specs.Plans.{Fits, Plans, level_of}
 use Rattle.ct_call.specs.declared.plan.CallPlan.{CallPlan}
 use Rattle.ct_edit.proofs.Told.{MakesBytes}
@@ -95,10 +92,6 @@ module _ {w path : List ℕ} {i : ℕ} {f : Inode} (found : IsFileAt w path i f)
     placed = subst IsPlaced found.is (rest.sound placed i found.live);
   }
 
-  -- as the image has its inode
-  pub file_here : IsFileAt w path i (inode (view w) i)
-  file_here = subst (IsFileAt w path i) (sym found.is) found
-
 -- ---- the plan
 
 pub takes_no_inode : (w path : List ℕ) (edit : Edit) → ¬ LacksInode w (edit_op path edit)
@@ -161,11 +154,11 @@ makes_bytes path (Append bytes) t was size is =
     ap (λ n. put t (names path) (File (written (bytes_in n) (length (bytes_in n)) bytes.now))) is ∙ ap (λ k. put t (names path) (File (written was k bytes.now))) size
 makes_bytes path (Truncate len) t was size is = ap (λ n. put t (names path) (File (resized len (bytes_in n)))) is
 
-pub spends : (path : List ℕ) (edit : Edit) → WantsSpace (edit_op path edit)
-spends path (Write off bytes) = tt
-spends path (Fill off len byte) = tt
-spends path (Append bytes) = tt
-spends path (Truncate len) = tt
+pub changes : (path : List ℕ) (edit : Edit) → IsChange (edit_op path edit)
+changes path (Write off bytes) = tt
+changes path (Fill off len byte) = tt
+changes path (Append bytes) = tt
+changes path (Truncate len) = tt
 
 enters : (old new path : List ℕ) (edit : Edit) → EntersAt old new (edit_op path edit)
 enters old new path (Write off bytes) = tt

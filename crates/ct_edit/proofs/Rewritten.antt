@@ -1,8 +1,6 @@
 -- A record changed the bytes of a file: the words are at rest again, and land on the objects with the change.
-use Rattle.std.proofs.Common.{◌≡◌, ◌≢◌, ℕ, ◌+◌, ◌*◌, ◌<◌, ◌≤◌, List, Option, ap, subst, ◌∙◌, inl, inr, arith}
+use Rattle.std.proofs.Common.{◌≡◌, ◌≢◌, ℕ, ◌+◌, ◌<◌, ◌≤◌, List, Option, ap, subst, ◌∙◌, inl, inr, arith}
 use Rattle.std.specs.Prelude.{length}
-use Rattle.std.proofs.lemmas.Bool.{cases_eq}
-use Rattle.ct_base.specs.Head.{HasHead}
 use Rattle.ct_base.specs.Objects.{Object, objects}
 use Rattle.ct_base.specs.Rules.{Sound}
 use Rattle.ct_base.specs.Settled.{HasPages, IsShut}
@@ -12,22 +10,21 @@ use Rattle.ct_grow.specs.Grown.{IsReady}
 use Rattle.ct_pm.specs.Images.{History}
 use Rattle.ct_pm.specs.Phase.{Phase}
 use Rattle.ct_pm.proofs.Phases.{phase_then, phase_weaker}
-use Rattle.ct_record.proofs.Lawful.{shut_few}
-use Rattle.ct_state.specs.Alike.{IsWhole}
-use Rattle.ct_state.proofs.Carry.{files-same, sound-same}
-use Rattle.ct_state.proofs.Shut.{shut_alike, shut_whole}
-use Rattle.ct_state.proofs.States.{SameHead, head_of, head_on, head_rules}
 use Rattle.ct_state.proofs.Write.{written as object_written}
 use Rattle.ct_tree.specs.Lands.{files}
 use Rattle.ct_write.specs.declared.data.Data.{Data}
-use Rattle.ct_write.specs.Turned.{IsStateOr}
+use Rattle.ct_commit.specs.Closed.{IsStateOr}
 use Rattle.ct_write.specs.Written.{CanWrite, IsBeforeOrAfter, IsWritten, data_bytes, data_given, data_len}
 use Rattle.ct_write.proofs.Changing.{Changing, changed_sound}
 use Rattle.ct_write.proofs.Files.{changed as changing, data_at, data_length, file_written}
-use Rattle.ct_call.proofs.Landed.{same_as, state_as}
-use Rattle.ct_call.proofs.Neutral.{no_entry, no_table}
-use Rattle.ct_call.specs.Landing.{LandsAs}
-use Rattle.ct_call.specs.Mounted.{IsAtRest}
+use Rattle.ct_commit.proofs.Landed.{same_as}
+use Rattle.ct_commit.specs.Landing.{LandsAs}
+use Rattle.ct_commit.specs.Rest.{IsAtRest, IsMounted, IsUnstaged}
+use Rattle.ct_commit.proofs.Resting.{slots_stay_but, unstaged_all}
+use Rattle.ct_commit.proofs.States.{head_over}
+use Rattle.ct_frames.specs.Agrees.{Agrees}
+use Rattle.ct_frames.specs.Free.{FreePages}
+use Rattle.ct_pm.specs.Device.{NothingPending}
 use Rattle.ct_edit.specs.Changed.{Changes, ChangesOrNot}
 use Rattle.ct_edit.specs.Edits.{written_from}
 
@@ -42,27 +39,17 @@ pub record Remade (old new : List ℕ) (i : ℕ) (change : List ℕ → List ℕ
 
 module _ {old : List ℕ} {i : ℕ} {change : List ℕ → List ℕ} (rest : IsAtRest old) where
   module _ {new : List ℕ} (m : Remade old new i change) where
-    head_now : IsShut new → HasHead new
-    head_now shut =
-        let same : SameHead old new = record { lawful = rest.head.recorded; lawful_too = (shut_few 0 new shut).lawful; words = m.head; size = m.size } in
-        head_of (λ h. head_on same h (head_rules rest.head h))
+    rest_now : AreTables new → IsShut new → IsAtRest new
+    rest_now tables shut = record { head = head_over rest.head m.head m.size shut; sound = m.sound tables rest.sound; shut = shut; tables = tables }
 
-    -- the staging slots are empty again
-    unstaged_now : IsReady new → (k : ℕ) → k < 8 → word new (33 * 512 + 2 + k) ≡ 0
-    unstaged_now ready k lt = elim (cases_eq k 0) [
-      | inl none ↦ ap (word new) (omega (arith, none)) ∙ ready.unstaged
-      | inr other ↦
-          let was = no_table old (2 + k) (omega (arith, lt)) (ap (word old) (omega arith) ∙ rest.unstaged k lt) in
-          ap (word new) (omega arith) ∙ no_entry new (2 + k) (omega (arith, lt)) ready.tables (m.roots (2 + k) (omega (arith, other)) (omega (arith, lt)) ∙ was)
-    ]
-
-    pub rest_now : IsReady new → IsAtRest new
-    rest_now ready = record { head = head_now ready.shut; sound = m.sound ready.tables rest.sound; shut = ready.shut; unstaged = unstaged_now ready; tables = ready.tables }
-
-    lands_now : IsShut new → IsWhole new → LandsAs (files new) new
-    lands_now shut whole =
-        let alike = shut_alike shut whole in
-        record { head = head_now shut; sound = sound-same alike (shut_whole shut whole) (m.sound whole.tables rest.sound); objects = files-same alike }
+    -- and the staging slots are empty again
+    pub mounted_now : {told : Option History} {frames : FreePages} → IsUnstaged old → IsReady new → NothingPending told → Agrees new frames → IsMounted new told frames
+    mounted_now none ready settled agrees = record {
+      rest = rest_now ready.tables ready.shut;
+      unstaged = unstaged_all new 2 ready.unstaged (slots_stay_but old new 2 ready.tables (λ k lt other. m.roots (2 + k) (omega (arith, other)) (omega (arith, lt))) none);
+      settled = settled;
+      agrees = agrees;
+    }
 
   module _ (Done : List ℕ → Type 0) (make : (after : List ℕ) → Done after → Remade old after i change) where
     -- an image of the record lands on the objects with the change
@@ -70,7 +57,7 @@ module _ {old : List ℕ} {i : ℕ} {change : List ℕ → List ℕ} (rest : IsA
     landing image (inl same) = inl (same_as rest same)
     landing image (inr has) =
         let m = make has.after has.done in
-        inr (record { after = files has.after; lands = state_as has.state (lands_now m has.shut has.whole); changes = m.changes })
+        inr (record { after = files has.after; lands = same_as (rest_now m has.whole.tables has.shut) has.state; changes = m.changes })
 
     -- growth, and the record then
     pub edit_phase : {fs : ℕ → Object} {from then to : Option History} {now : List ℕ} → files old ≡ fs → Phase (LandsAs fs) 150 from then old → Phase (IsStateOr old Done) 5111 then to now → Phase (ChangesOrNot fs i change) 5111 from to now

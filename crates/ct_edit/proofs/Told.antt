@@ -25,10 +25,10 @@ use Rattle.ct_tree.specs.Step.{Op, answered, effect, refusal}
 use Rattle.ct_tree.specs.Tree.{Tree, File}
 use Rattle.ct_tree.proofs.Ordered.{put_tree}
 use Rattle.ct_tree.proofs.Steps.{are_names}
-use Rattle.ct_call.proofs.Landed.{lands_on}
+use Rattle.ct_commit.proofs.Landed.{lands_on}
 use Rattle.ct_call.proofs.Pairs.{least_pairs}
 use Rattle.ct_call.specs.Calls.{StandsFor, after, most_pairs}
-use Rattle.ct_call.specs.Mounted.{IsAtRest}
+use Rattle.ct_commit.specs.Rest.{IsAtRest}
 use Rattle.ct_edit.specs.Changed.{Changes, ChangesOrNot}
 use Rattle.ct_edit.specs.Found.{IsFileAt}
 

@@ -16,7 +16,8 @@ use Rattle.ct_call.proofs.Enlarged.{part_bytes-le}
 use Rattle.ct_call.proofs.Roomed.{may_enlarge}
 use Rattle.ct_call.proofs.Rooms.{ready_here}
 use Rattle.ct_call.proofs.Spaced.{open_part}
-use Rattle.ct_call.specs.Mounted.{IsAtRest}
+use Rattle.ct_grow.specs.Grown.{IsReady}
+use Rattle.ct_commit.specs.Rest.{IsAtRest, IsUnstaged}
 use Rattle.ct_call.specs.Plans.{Fits, Plans, free_of, level_of}
 use Rattle.ct_call.specs.Rooms.{Gives}
 use Rattle.ct_call.specs.declared.plan.CallPlan.{CallPlan}
@@ -25,6 +26,7 @@ use Rattle.ct_edit.proofs.Growths.{GrowsTo, grown-growth, grows_at, stays_at}
 -- A live file is to hold so many bytes, and its plan, which fits, asks for more then.
 pub record Plots (w : List ℕ) (before : FreePages) (i end : ℕ) (more : Partition → List Want) (plan : CallPlan) : Type 0 where
   pub rest : IsAtRest w
+  pub unstaged : IsUnstaged w
   pub live : IsLive (view w) (inode_count w) i
   pub file : (inode (view w) i).kind ≡ 1
   pub within : end ≤ 2 ^ 39
@@ -35,9 +37,9 @@ pub record Plots (w : List ℕ) (before : FreePages) (i end : ℕ) (more : Parti
 pub record Starts (w mid : List ℕ) (before middle : FreePages) (i end : ℕ) (more : Partition → List Want) (plan : CallPlan) : Type 0 where
   pub plots : Plots w before i end more plan
   pub gives : Gives w mid before middle i (level_of plan.growth)
-  pub now : IsAtRest mid
+  pub now : IsReady mid
 
-pub starts : {w mid : List ℕ} {before middle : FreePages} {i end : ℕ} {more : Partition → List Want} {told : Option ℕ} {plan : CallPlan} → Plots w before i end more plan → told ≡ level_of plan.growth → Gives w mid before middle i told → IsAtRest mid
+pub starts : {w mid : List ℕ} {before middle : FreePages} {i end : ℕ} {more : Partition → List Want} {told : Option ℕ} {plan : CallPlan} → Plots w before i end more plan → told ≡ level_of plan.growth → Gives w mid before middle i told → IsReady mid
     → Starts w mid before middle i end more plan
 starts {w} {mid} {before} {middle} {i} p level gave now = record { plots = p; gives = subst (λ (o : Option ℕ). Gives w mid before middle i o) level gave; now = now }
 
@@ -86,7 +88,7 @@ module _ {w : List ℕ} {before : FreePages} {i end : ℕ} {more : Partition →
   pub can_grow : {told : Option ℕ} → told ≡ level_of plan.growth → (level : ℕ) → told ≡ Some level → CanGrow w i level × (growth_need w (inode (view w) i) level ≤ length before.free)
   can_grow is level some =
       let goes = sym is ∙ some in (
-        record { ready = ready_here p.rest; live = p.live; fits = (grows level goes).high; more = wider level goes; some = some_free level goes },
+        record { ready = ready_here p.rest p.unstaged; live = p.live; fits = (grows level goes).high; more = wider level goes; some = some_free level goes },
         omega (arith, missing_first w (growth_wants f (next level)) (more (next level)), counts_grown level goes, p.fits.pages),
       )
 

@@ -2,7 +2,7 @@
 use Rattle.std.specs.Prelude.{◌≡◌, ◌≢◌, ◌⊎◌, ℕ, List}
 use Rattle.ct_base.specs.Objects.{Object}
 use Rattle.ct_tree.specs.Stands.{IsFile}
-use Rattle.ct_call.specs.Landing.{LandsAs}
+use Rattle.ct_commit.specs.Landing.{LandsAs}
 
 -- file i has its bytes changed, and each other object is as it was
 pub record Changes (fs gs : ℕ → Object) (i : ℕ) (change : List ℕ → List ℕ) : Type 0 where

@@ -1,6 +1,6 @@
 // The file that a call means.
 ghost use Rattle.std.specs.Prelude.{◌≡◌};
-ghost use Rattle.ct_call.specs.Mounted.{IsAtRest};
+ghost use Rattle.ct_commit.specs.Rest.{IsAtRest};
 ghost use Rattle.ct_edit.specs.Found.{FindsFile};
 
 use ct_base::{DIRECTORY_KIND, Inode};

@@ -3,18 +3,15 @@ ghost use Rattle.std.specs.Prelude.{◌≡◌, ◌≢◌, ◌↔◌, ℕ, ◌+�
 ghost use Rattle.ct_base.specs.Causes.{HasCause};
 ghost use Rattle.ct_base.specs.Free.{HasFreePages};
 ghost use Rattle.ct_base.specs.Inode.{IsLive, inode as inode_at};
-ghost use Rattle.ct_base.specs.Settled.{HasPages};
 ghost use Rattle.ct_base.specs.View.{inode_count, view};
 ghost use Rattle.ct_base.specs.Wants.{missing};
-ghost use Rattle.ct_frames.specs.Agrees.{Agrees};
-ghost use Rattle.ct_pm.specs.Device.{NothingPending};
 ghost use Rattle.ct_pm.specs.Phase.{Phase};
 ghost use Rattle.ct_record.specs.Seen.{device_behind};
 ghost use Rattle.ct_tree.specs.Lands.{files};
 ghost use Rattle.ct_tree.specs.Tree.{Tree};
 ghost use Rattle.ct_call.specs.Answers.{IsPrepared};
 ghost use Rattle.ct_call.specs.Calls.{Does, StandsFor};
-ghost use Rattle.ct_call.specs.Mounted.{IsAtRest};
+ghost use Rattle.ct_commit.specs.Rest.{IsMounted};
 ghost use Rattle.ct_call.specs.Placed.{IsMoved, Places};
 ghost use Rattle.ct_call.specs.Plans.{Fits, Plans, level_of};
 ghost use Rattle.ct_call.specs.Seen.{ready_in};
@@ -29,7 +26,7 @@ use crate::plan::{truncate_plan, write_plan};
 use crate::truncate::resize_file;
 use crate::write::write_file;
 use ct_base::{FILE_KIND, Inode, MOST_CALL_PAIRS};
-use ct_call::{CallPlan, Failed, FsError, Mounted, State, check_space};
+use ct_call::{CallPlan, FsError, Mounted, State, check_space, ended, refused};
 use ct_frames::Frames;
 use ct_pm::Pm;
 use ct_record::Broken;
@@ -66,8 +63,7 @@ fn prepare<'e, D: Pm>(
     path: &[u8],
     edit: Edit<'e>,
 ) -> Result<(u64, Task<'e>, CallPlan), Refusal>
-    requires rest { IsAtRest (D.words dev.now) }
-    requires agrees { Agrees (D.words dev.now) frames.now }
+    requires mounted { IsMounted (D.words dev.now) (D.told dev.now) frames.now }
     ensures answer { (t : Tree) → StandsFor (D.words dev.now) t → IsPrepared (D.words dev.now) t (edit_op path.now edit.entry) result }
     ensures file { IfOk result (λ found. IsFileAt (D.words dev.now) path.now found.0 (inode_at (view (D.words dev.now)) found.0)) }
     ensures task { IfOk result (λ found. found.1 ≡ task_by edit.entry (inode_at (view (D.words dev.now)) found.0).size) }
@@ -100,9 +96,7 @@ fn carry_out<D: Pm>(
     plan: &CallPlan,
     task: Task<'_>,
 ) -> Result<D, Broken<D>>
-    requires rest { IsAtRest (D.words dev) }
-    requires agrees { Agrees (D.words dev) frames.old }
-    requires settled { NothingPending (D.told dev) }
+    requires mounted { IsMounted (D.words dev) (D.told dev) frames.old }
     requires live { IsLive (view (D.words dev)) (inode_count (D.words dev)) file }
     requires kind { (inode_at (view (D.words dev)) file).kind ≡ FILE_KIND }
     requires within { task_end task ≤ FILE_BYTES }
@@ -113,13 +107,10 @@ fn carry_out<D: Pm>(
     ensures moved { OnOk result ((level : ℕ) → level_of plan.now.growth ≡ Some level → IsMoved (IsReplaced task.entry) (D.words dev) (D.words (device_behind result)) file level) }
     ensures taken { OnOk result (length frames.old.free ≤ length frames.new.free + missing (D.words dev) plan.now.wants) }
     ensures counted { OnOk result (inode_count (D.words (device_behind result)) ≡ inode_count (D.words dev)) }
-    ensures rest { OnOk result (IsAtRest (D.words (device_behind result))) }
-    ensures agrees { OnOk result (Agrees (D.words (device_behind result)) frames.new) }
-    ensures settled { OnOk result (NothingPending (D.told (device_behind result))) }
+    ensures mounted { OnOk result (IsMounted (D.words (device_behind result)) (D.told (device_behind result)) frames.new) }
 
     // A crash at any moment lands on the objects as they were, or with the change.
     ensures phase { Phase (ChangesOrNot (files (D.words dev)) file (task_change task.entry)) MOST_CALL_PAIRS (D.told dev) (D.told (device_behind result)) (D.words (device_behind result)) }
-    ensures pages { HasPages (D.words (device_behind result)) }
     ensures cause { HasCause (D.faults dev) (D.faults (device_behind result)) result }
 {
     match task {
@@ -142,22 +133,8 @@ pub fn edit_in<D: Pm>(
     let Mounted { dev, mut frames } = mounted;
     let (file, task, plan) = match prepare(&dev, &frames, path, edit) {
         Ok(found) => found,
-        Err(refusal) => {
-            return (
-                State::Ready(Mounted { dev, frames }),
-                Err(FsError::Refused(refusal)),
-            );
-        }
+        Err(refusal) => return refused(dev, frames, refusal),
     };
-    match carry_out(dev, &mut frames, file, &plan, task) {
-        Ok(dev) => {
-            // Not the count is wanted, but what its contract says: the free pages are a list that can be counted.
-            let _ = frames.free();
-            (State::Ready(Mounted { dev, frames }), Ok(()))
-        }
-        Err(broken) => {
-            let Broken { dev } = broken;
-            (State::Dead(Failed { dev }), Err(FsError::Fault))
-        }
-    }
+    let carried = carry_out(dev, &mut frames, file, &plan, task);
+    ended(carried, frames)
 }

@@ -3,16 +3,13 @@ ghost use Rattle.std.specs.Prelude.{◌≡◌, ℕ, ◌+◌, ◌≤◌, length, 
 ghost use Rattle.ct_base.specs.Causes.{HasCause};
 ghost use Rattle.ct_base.specs.Inode.{IsLive, inode as inode_at};
 ghost use Rattle.ct_base.specs.Plan.{write_plan as plan_of_write};
-ghost use Rattle.ct_base.specs.Settled.{HasPages};
 ghost use Rattle.ct_base.specs.View.{inode_count, view};
 ghost use Rattle.ct_base.specs.Wants.{missing};
-ghost use Rattle.ct_frames.specs.Agrees.{Agrees};
-ghost use Rattle.ct_pm.specs.Device.{NothingPending};
 ghost use Rattle.ct_pm.specs.Phase.{Phase};
 ghost use Rattle.ct_record.specs.Seen.{device_behind};
 ghost use Rattle.ct_tree.specs.Lands.{files};
 ghost use Rattle.ct_write.specs.Written.{data_len};
-ghost use Rattle.ct_call.specs.Mounted.{IsAtRest};
+ghost use Rattle.ct_commit.specs.Rest.{IsMounted};
 ghost use Rattle.ct_call.specs.Placed.{IsMoved, IsTouched};
 ghost use Rattle.ct_call.specs.Plans.{Fits, Plans, level_of};
 ghost use Rattle.ct_edit.specs.Changed.{Changes, ChangesOrNot};
@@ -36,9 +33,7 @@ pub(crate) fn write_file<D: Pm>(
     off: u64,
     what: Data<'_>,
 ) -> Result<D, Broken<D>>
-    requires rest { IsAtRest (D.words dev) }
-    requires agrees { Agrees (D.words dev) frames.old }
-    requires settled { NothingPending (D.told dev) }
+    requires mounted { IsMounted (D.words dev) (D.told dev) frames.old }
     requires live { IsLive (view (D.words dev)) (inode_count (D.words dev)) file }
     requires kind { (inode_at (view (D.words dev)) file).kind ≡ FILE_KIND }
     requires within { off + data_len what ≤ FILE_BYTES }
@@ -50,13 +45,10 @@ pub(crate) fn write_file<D: Pm>(
         → IsMoved (IsTouched off (data_len what.entry)) (D.words dev) (D.words (device_behind result)) file level) }
     ensures taken { OnOk result (length frames.old.free ≤ length frames.new.free + missing (D.words dev) plan.now.wants) }
     ensures counted { OnOk result (inode_count (D.words (device_behind result)) ≡ inode_count (D.words dev)) }
-    ensures rest { OnOk result (IsAtRest (D.words (device_behind result))) }
-    ensures agrees { OnOk result (Agrees (D.words (device_behind result)) frames.new) }
-    ensures settled { OnOk result (NothingPending (D.told (device_behind result))) }
+    ensures mounted { OnOk result (IsMounted (D.words (device_behind result)) (D.told (device_behind result)) frames.new) }
 
     // A crash at any moment lands on the objects as they were, or with the write.
     ensures phase { Phase (ChangesOrNot (files (D.words dev)) file (written_from off what.entry)) MOST_CALL_PAIRS (D.told dev) (D.told (device_behind result)) (D.words (device_behind result)) }
-    ensures pages { HasPages (D.words (device_behind result)) }
     ensures cause { HasCause (D.faults dev) (D.faults (device_behind result)) result }
 {
     if len_of(what) == 0 {

@@ -1,15 +1,12 @@
 -- What stands once the words of a new entry are there, and where a crash lands.
-use Rattle.std.proofs.Common.{◌≡◌, ℕ, ◌+◌, ◌*◌, ◌<◌, List, [], ◌∷◌, ◌++◌, sym, ap, ◌∙◌, subst, inl, inr, arith}
+use Rattle.std.proofs.Common.{◌≡◌, ℕ, List, [], ◌∷◌, ◌++◌, sym, ap, ◌∙◌, subst, inl, inr, arith}
 use Rattle.ct_base.specs.declared.inode.Inode.{Inode}
-use Rattle.ct_base.specs.Head.{HasHead}
 use Rattle.ct_base.specs.Named.{Leads}
 use Rattle.ct_base.specs.Objects.{Object}
 use Rattle.ct_base.specs.Rules.{names, slots}
 use Rattle.ct_base.specs.Settled.{IsShut}
 use Rattle.ct_base.specs.View.{view, inode_count}
-use Rattle.ct_base.specs.Walk.{word, named_page, next, page_at, page_count}
-use Rattle.ct_image.proofs.Steps.{named_page-zero, next-at, page_at-root, page_at-entry}
-use Rattle.ct_record.proofs.Lawful.{shut_few}
+use Rattle.ct_commit.proofs.States.{head_over}
 use Rattle.ct_state.proofs.Bytes.{objects-in}
 use Rattle.ct_state.proofs.Created.{created_sound, created_stands, new_file, new_dir}
 use Rattle.ct_state.proofs.Followed.{followed, all_names}
@@ -20,9 +17,8 @@ use Rattle.ct_tree.specs.Stands.{Stands}
 use Rattle.ct_tree.specs.Tree.{Tree, File, Dir}
 use Rattle.ct_tree.proofs.Ordered.{put_tree}
 use Rattle.ct_call.specs.Calls.{StandsFor}
-use Rattle.ct_call.specs.Mounted.{IsAtRest}
+use Rattle.ct_commit.specs.Rest.{IsAtRest, KeepsTables}
 use Rattle.ct_enter.specs.Entry.{HasEntry, empty_node, with_node}
-use Rattle.ct_call.specs.Rooms.{KeepsTables}
 use Rattle.ct_enter.proofs.Entering.{Enters, creates, entry_keeps, entry_kind}
 
 -- ---- the words after the record
@@ -31,33 +27,8 @@ module _ {old new : List ℕ} {dir : ℕ} {f : Inode} {offset : ℕ} {name : Lis
   keeps : KeepsTables old new
   keeps = entry_keeps e
 
-  head_after : HasHead new
-  head_after =
-      let h = e.rest.head in
-      let pages = keeps.head 2 (omega arith) in
-      record {
-        pages = (omega (arith, h.pages.0, keeps.size), omega (arith, h.pages.1, keeps.size));
-        magic = keeps.head 0 (omega arith) ∙ h.magic;
-        version = keeps.head 1 (omega arith) ∙ h.version;
-        count = (omega (arith, h.count.0, pages), omega (arith, h.count.1, pages, keeps.size));
-        inodes = (omega (arith, h.inodes.0, keeps.head 3 (omega arith)), omega (arith, h.inodes.1, keeps.head 3 (omega arith)));
-        spare = λ w four lt. keeps.head w lt ∙ h.spare w four lt;
-        recorded = (shut_few 0 new shut).lawful;
-      }
-
-  -- the root table has nothing in the staging slots
-  unstaged_after : (k : ℕ) → k < 8 → word new (33 * 512 + 2 + k) ≡ 0
-  unstaged_after k lt =
-      let root : page_at old 0 0 ≡ 33 = page_at-root old in
-      let root_after : page_at new 0 0 ≡ 33 = page_at-root new in
-      let step : page_at old 1 (0 * 512 + (2 + k)) ≡ 0 =
-      page_at-entry old 0 0 (2 + k) (omega arith) ∙ next-at old (page_at old 0 0) (2 + k) (λ z. omega (arith, root, z))
-      ∙ ap (named_page (page_count old)) (ap (λ p. word old (p * 512 + (2 + k))) root ∙ ap (word old) (omega arith) ∙ e.rest.unstaged k lt) ∙ named_page-zero (page_count old) in
-      let gone : next new (page_at new 0 0) (2 + k) ≡ 0 = sym (page_at-entry new 0 0 (2 + k) (omega arith)) ∙ keeps.cells 1 (0 * 512 + (2 + k)) (omega arith) ∙ step in
-      ap (word new) (omega (arith, root_after)) ∙ (creates e).tables.entries 0 0 (2 + k) (omega arith) (omega arith) (λ z. omega (arith, root_after, z)) gone
-
   rest_after : IsAtRest new
-  rest_after = record { head = head_after; sound = created_sound (creates e); shut = shut; unstaged = unstaged_after; tables = (creates e).tables }
+  rest_after = record { head = head_over e.rest.head keeps.head keeps.size shut; sound = created_sound (creates e); shut = shut; tables = (creates e).tables }
 
   -- the new object is empty
   leaf_stands : Stands (files new) number (empty_node kind)

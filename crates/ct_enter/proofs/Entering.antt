@@ -22,9 +22,9 @@ use Rattle.ct_state.proofs.Bytes.{little-same, objects-in}
 use Rattle.ct_state.proofs.Created.{Creates}
 use Rattle.ct_state.proofs.Entry.{IsFilled, MakesEntry}
 use Rattle.ct_state.proofs.Write.{HasSpace}
-use Rattle.ct_enter.specs.Entry.{IsSpot, IsFreeInode, WritesEntry, KeepsPart, empty_inode}
-use Rattle.ct_call.specs.Rooms.{KeepsTables}
-use Rattle.ct_call.specs.Mounted.{IsAtRest}
+use Rattle.ct_call.specs.Placed.{empty_inode}
+use Rattle.ct_enter.specs.Entry.{IsSpot, IsFreeInode, WritesEntry, KeepsPart}
+use Rattle.ct_commit.specs.Rest.{IsAtRest, KeepsTables}
 
 -- a partition's bytes are looked at
 seen_part : (v : ℕ) → 10 * 2 ^ 39 ≤ v → v < 2 ^ 48 → is_seen v ≡ true
@@ -73,9 +73,6 @@ module _ {old new : List ℕ} {dir : ℕ} {f : Inode} {offset : ℕ} {name : Lis
 
   dir_few : dir ≤ 1048576
   dir_few = spot_few e.rest e.spot
-
-  level_few : f.level ≤ 9
-  level_few = spot_level e.rest e.spot
 
   room : HasRoom f
   room = spot_room e.rest e.spot
@@ -150,7 +147,7 @@ module _ {old new : List ℕ} {dir : ℕ} {f : Inode} {offset : ℕ} {name : Lis
   kind_fits : kind < 2 ^ 64
   kind_fits = elim e.sort [ inl one ↦ omega (arith, one) | inr two ↦ omega (arith, two) ]
 
-  object_is : inode (view new) number ≡ empty_inode kind
+  pub object_is : inode (view new) number ≡ empty_inode kind
   object_is = inode_put number (64 * number) (empty_inode kind) e.writes.object refl number_few kind_fits (omega arith) (omega arith) (omega arith)
 
   spare : (k : ℕ) → 4 ≤ k → k < 8 → inode_word (view new) number k ≡ 0
@@ -191,6 +188,9 @@ module _ {old new : List ℕ} {dir : ℕ} {f : Inode} {offset : ℕ} {name : Lis
         ∙ omega (arith, more.0, spot_ends e.rest e.spot)
   ]
 
+  pub dir_size : (inode (view new) dir).size ≡ max f.size (offset + 256)
+  dir_size = size_word ∙ size_now
+
   space : HasSpace (view old) (inode_count old)
   space = record {
     few = few;
@@ -224,7 +224,7 @@ module _ {old new : List ℕ} {dir : ℕ} {f : Inode} {offset : ℕ} {name : Lis
     level = ap (λ (g : Inode). g.level) object_is;
     spare = spare;
     filled = subst (λ v. IsFilled (view new) (v + offset) number name) (sym base_is) filled;
-    grown = size_word ∙ size_now ∙ ap (λ n. max n (offset + 256)) (sym size_is);
+    grown = dir_size ∙ ap (λ n. max n (offset + 256)) (sym size_is);
     others = λ v object size slot. others v object size (elim slot [ inl low ↦ inl (omega (arith, low, base_is)) | inr high ↦ inr (omega (arith, high, base_is)) ]);
   }
 

@@ -27,11 +27,11 @@ use Rattle.ct_call.proofs.Spaced.{open_part}
 use Rattle.ct_enter.proofs.Wanted.{at_address, two_cases}
 use Rattle.ct_enter.specs.Entry.{IsFreeInode, IsSpot}
 use Rattle.ct_enter.specs.Makes.{IsFreshName}
-use Rattle.ct_call.specs.Mounted.{IsAtRest}
+use Rattle.ct_commit.specs.Rest.{IsAtRest}
 use Rattle.ct_call.specs.Plans.{Asks, IsOpen, Plans, free_of, grown_wants, level_of, part_then}
 use Rattle.ct_enter.specs.Plans.{CanPlan, IsEntryPlan, entry_wants, plan_for, slot_growth}
 use Rattle.ct_call.specs.Rooms.{MakesRoom}
-use Rattle.ct_enter.specs.Spots.{IsNextSlot}
+use Rattle.ct_find.specs.Spots.{IsNextSlot}
 use Rattle.ct_call.specs.declared.plan.CallPlan.{CallPlan}
 
 -- a page before the slot's, and above the inodes, is not wanted

@@ -11,8 +11,8 @@ use Rattle.ct_tree.specs.Tree.{Tree}
 use Rattle.ct_call.specs.Calls.{StandsFor}
 use Rattle.ct_enter.specs.Entry.{with_node}
 use Rattle.ct_enter.specs.Landing.{EntersOrNot}
-use Rattle.ct_call.specs.Landing.{LandsAs}
-use Rattle.ct_call.proofs.Landed.{lands_on}
+use Rattle.ct_commit.specs.Landing.{LandsAs}
+use Rattle.ct_commit.proofs.Landed.{lands_on}
 
 -- and what lands has its pages
 pub lands_pages : {fs : ℕ → Object} {dir : ℕ} {name : List ℕ} {kind : ℕ} (image : List ℕ) → EntersOrNot fs dir name kind image → HasPages image

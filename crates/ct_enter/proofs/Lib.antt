@@ -13,5 +13,4 @@ pub mod Placing
 pub mod Planned
 pub mod Slotted
 pub mod Spared
-pub mod Spotting
 pub mod Wanted

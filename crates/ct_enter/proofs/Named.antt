@@ -8,9 +8,10 @@ use Rattle.ct_tree.specs.Step.{answered, effect, make_refusal, refusal}
 use Rattle.ct_tree.specs.Tree.{Tree}
 use Rattle.ct_call.specs.Calls.{after}
 use Rattle.ct_enter.specs.Entry.{empty_node, with_node}
-use Rattle.ct_enter.specs.Makes.{kind_of, make_op}
-use Rattle.ct_enter.specs.declared.create.Kind.{Kind}
-use Rattle.ct_enter.specs.declared.create.Kind.TheVariants.{File as file, Directory as directory}
+use Rattle.ct_enter.specs.Makes.{make_op}
+use Rattle.ct_find.specs.Kinds.{kind_of}
+use Rattle.ct_find.specs.declared.kind.Kind.{Kind}
+use Rattle.ct_find.specs.declared.kind.Kind.TheVariants.{File as file, Directory as directory}
 
 split_last : (xs : List (List ℕ)) → xs ≢ [] → parent xs ++ (last_name xs ∷ []) ≡ xs
 split_last [] some = absurd (some refl)

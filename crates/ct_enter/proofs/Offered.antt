@@ -8,7 +8,7 @@ use Rattle.ct_base.specs.View.{view, inode_count}
 use Rattle.ct_state.proofs.Bytes.{objects-in}
 use Rattle.ct_tree.specs.Lands.{files}
 use Rattle.ct_enter.proofs.Wanted.{free_unused}
-use Rattle.ct_enter.specs.Spots.{IsNextSlot}
+use Rattle.ct_find.specs.Spots.{IsNextSlot}
 
 -- neither the first empty slot nor the end of a directory is used
 pub next_unused : {img : List ℕ} {dir : ℕ} {f : Inode} {offset : ℕ} → Sound img → IsNextSlot img dir f offset → IsSlot (files img dir) offset → ⊥

@@ -12,9 +12,9 @@ use Rattle.ct_parts.proofs.Live.{live_stand}
 use Rattle.ct_state.proofs.Bytes.{objects-in, objects-cases}
 use Rattle.ct_image.proofs.Turns.{injected, count_below-every}
 use Rattle.ct_tree.specs.Lands.{files}
-use Rattle.ct_call.specs.Mounted.{IsAtRest}
+use Rattle.ct_commit.specs.Rest.{IsAtRest}
 use Rattle.ct_enter.specs.Plans.{CanPlan}
-use Rattle.ct_enter.specs.Spots.{IsNextSlot}
+use Rattle.ct_find.specs.Spots.{IsNextSlot}
 
 -- the slots before the first empty one are used
 before_free : (f : Object) (n o k : ℕ) → o + 256 * k < free_slot_from f o n → little f.at (o + 256 * k) 256 ≢ 0

@@ -12,14 +12,15 @@ use Rattle.ct_tree.specs.Checks.{names}
 use Rattle.ct_tree.specs.Lands.{files}
 use Rattle.ct_tree.specs.Need.{IsParentAt, PlansCreate}
 use Rattle.ct_tree.specs.Resolve.{parent}
-use Rattle.ct_tree.specs.Runs.{MakesNode, WantsSpace}
+use Rattle.ct_tree.specs.Runs.{MakesNode}
 use Rattle.ct_call.specs.Answers.{HasOnlyPlan, LacksInode}
+use Rattle.ct_call.specs.Calls.{IsChange}
 use Rattle.ct_enter.specs.Makes.{make_op}
-use Rattle.ct_call.specs.Mounted.{IsAtRest}
+use Rattle.ct_commit.specs.Rest.{IsAtRest}
 use Rattle.ct_enter.specs.Plans.{plan_for, slot_growth}
-use Rattle.ct_enter.specs.Spots.{IsNextSlot}
-use Rattle.ct_enter.specs.declared.create.Kind.{Kind}
-use Rattle.ct_enter.specs.declared.create.Kind.TheVariants.{File as file, Directory as directory}
+use Rattle.ct_find.specs.Spots.{IsNextSlot}
+use Rattle.ct_find.specs.declared.kind.Kind.{Kind}
+use Rattle.ct_find.specs.declared.kind.Kind.TheVariants.{File as file, Directory as directory}
 
 grown-growth : (b : ℕ → ℕ) (count : ℕ) (f : Inode) (g : Option ℕ) (more : Partition → List Want) → (grown b count f g more).growth ≡ g
 grown-growth b count f None more = refl
@@ -33,9 +34,9 @@ pub makes_node : (kind : Kind) (path : List ℕ) → MakesNode (make_op kind pat
 makes_node file path = tt
 makes_node directory path = tt
 
-pub spends : (kind : Kind) (path : List ℕ) → WantsSpace (make_op kind path)
-spends file path = tt
-spends directory path = tt
+pub changes : (kind : Kind) (path : List ℕ) → IsChange (make_op kind path)
+changes file path = tt
+changes directory path = tt
 
 -- there is one inode that is the lowest free one
 pub one_number : (img : List ℕ) {number : ℕ} → first_free_number (view img) (inode_count img) ≡ Some number → (n : ℕ) → first_free_number (view img) (inode_count img) ≡ Some n → n ≡ number

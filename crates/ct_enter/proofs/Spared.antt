@@ -9,9 +9,9 @@ use Rattle.ct_base.specs.Walk.{page_at}
 use Rattle.ct_image.proofs.Steps.{walk-cell}
 use Rattle.ct_state.proofs.Entry.{owns_back, part-same}
 use Rattle.ct_enter.specs.Entry.{IsEntryWord, IsSpot}
-use Rattle.ct_call.specs.Mounted.{IsAtRest}
+use Rattle.ct_commit.specs.Rest.{IsAtRest}
 use Rattle.ct_enter.proofs.Entering.{Enters, creates, entry_keeps, kind_stays, spot_few, spot_room}
-use Rattle.ct_call.proofs.FilePages.{base_whole, file_cell, high_in, room_of, word_page}
+use Rattle.ct_commit.proofs.Pages.{base_whole, file_cell, high_in, room_of, word_page}
 
 module _ {img : List ℕ} {dir : ℕ} {f : Inode} {offset : ℕ} {name : List ℕ} (rest : IsAtRest img) (s : IsSpot img dir f offset name) where
   -- a page of a live file is no page of the directory, and none of root slot 0

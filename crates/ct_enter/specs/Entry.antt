@@ -9,7 +9,7 @@ use Rattle.ct_base.specs.Slots.{IsSlot, slot_name}
 use Rattle.ct_base.specs.View.{view, inode_count}
 use Rattle.ct_base.specs.Walk.{word, page_at}
 use Rattle.ct_base.specs.Words.{Rewrites, place_at}
-use Rattle.ct_base.specs.declared.layout.TheConstants.{DIRECTORY_KIND, ENTRY_BYTES, ENTRY_WORDS, FILE_KIND, INODE_BYTES, NO_PARTITION, PAGE_BYTES}
+use Rattle.ct_base.specs.declared.layout.TheConstants.{DIRECTORY_KIND, ENTRY_BYTES, ENTRY_WORDS, FILE_KIND, INODE_BYTES, PAGE_BYTES}
 use Rattle.ct_dir.specs.Packed.{slot_words}
 use Rattle.ct_inode.specs.Drafted.{inode_words}
 use Rattle.ct_pm.specs.Device.{IsIn}
@@ -17,8 +17,8 @@ use Rattle.ct_tree.specs.Lands.{files}
 use Rattle.ct_tree.specs.Resolve.{put}
 use Rattle.ct_tree.specs.Tree.{Tree, File, Dir, none}
 use Rattle.ct_call.specs.Calls.{StandsFor}
-use Rattle.ct_call.specs.Mounted.{IsAtRest}
-use Rattle.ct_call.specs.Rooms.{KeepsTables}
+use Rattle.ct_call.specs.Placed.{empty_inode}
+use Rattle.ct_commit.specs.Rest.{IsAtRest, KeepsTables}
 
 -- inode number dir is f, a directory whose slot at the offset is empty and mapped, and no slot of it has the name
 pub record IsSpot (img : List ℕ) (dir : ℕ) (f : Inode) (offset : ℕ) (name : List ℕ) : Type 0 where
@@ -38,10 +38,6 @@ pub record IsFreeInode (img : List ℕ) (number : ℕ) : Type 0 where
   pub counted : IsNumber (inode_count img) number
   pub free : (inode (view img) number).kind ≡ 0
   pub there : page_at img 4 (INODE_BYTES * number / PAGE_BYTES) ≢ 0
-
--- the inode of an empty object
-abbrev pub empty_inode : ℕ → Inode
-empty_inode kind = record { kind = kind; size = 0; base = 0; level = NO_PARTITION }
 
 -- an empty file by its kind, else an empty directory
 abbrev pub empty_node : ℕ → Tree

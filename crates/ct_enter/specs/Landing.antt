@@ -6,7 +6,7 @@ use Rattle.ct_tree.specs.Ordered.{IsTree}
 use Rattle.ct_tree.specs.Stands.{Stands}
 use Rattle.ct_tree.specs.Tree.{Tree}
 use Rattle.ct_enter.specs.Entry.{with_node}
-use Rattle.ct_call.specs.Landing.{LandsAs}
+use Rattle.ct_commit.specs.Landing.{LandsAs}
 
 -- it has others then: a tree for which these stood has an empty object more, under a name of directory dir
 pub record LandsWith (fs : ℕ → Object) (dir : ℕ) (name : List ℕ) (kind : ℕ) (image : List ℕ) : Type 0 where

@@ -2,4 +2,3 @@ pub mod Entry
 pub mod Landing
 pub mod Makes
 pub mod Plans
-pub mod Spots

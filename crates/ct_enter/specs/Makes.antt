@@ -3,24 +3,18 @@ use Rattle.std.specs.Prelude.{◌≡◌, ◌≢◌, ℕ, true, List}
 use Rattle.ct_base.specs.Named.{Leads}
 use Rattle.ct_base.specs.Path.{is_name}
 use Rattle.ct_base.specs.Slots.{IsSlot, slot_name}
-use Rattle.ct_base.specs.declared.layout.TheConstants.{DIRECTORY_KIND, FILE_KIND}
 use Rattle.ct_tree.specs.Lands.{files}
 use Rattle.ct_tree.specs.Step.{Op, create, mkdir}
 use Rattle.ct_tree.specs.Tree.{Tree}
 use Rattle.ct_call.specs.Calls.{StandsFor}
 use Rattle.ct_enter.specs.Entry.{with_node}
-use Rattle.ct_enter.specs.declared.create.Kind.{Kind}
-use Rattle.ct_enter.specs.declared.create.Kind.TheVariants.{File as file, Directory as directory}
+use Rattle.ct_find.specs.declared.kind.Kind.{Kind}
+use Rattle.ct_find.specs.declared.kind.Kind.TheVariants.{File as file, Directory as directory}
 
 -- the call that makes an object of a kind
 abbrev pub make_op : Kind → List ℕ → Op
 make_op file path = create path
 make_op directory path = mkdir path
-
--- the kind that its inode has
-abbrev pub kind_of : Kind → ℕ
-kind_of file = FILE_KIND
-kind_of directory = DIRECTORY_KIND
 
 -- a name that no slot of the directory has
 pub record IsFreshName (img : List ℕ) (dir : ℕ) (name : List ℕ) : Type 0 where

@@ -1,13 +1,11 @@
 // The record of a call that makes an object, and what comes before it.
-ghost use Rattle.std.specs.Prelude.{◌≡◌, ◌≢◌, ◌⊎◌, ℕ, ◌+◌, List, length, Some, Err, IsSomeAnd, IfOk, OnOk};
+ghost use Rattle.std.specs.Prelude.{◌≡◌, ◌≢◌, ◌⊎◌, ℕ, ◌+◌, List, length, Some, Err, IsSomeAnd, IfOk, OnOk, max};
 ghost use Rattle.ct_base.specs.Causes.{HasCause};
 ghost use Rattle.ct_base.specs.Free.{HasFreePages};
+ghost use Rattle.ct_base.specs.Inode.{inode as inode_at};
 ghost use Rattle.ct_base.specs.Plan.{first_free_number};
-ghost use Rattle.ct_base.specs.Settled.{HasPages};
 ghost use Rattle.ct_base.specs.View.{inode_count, view};
 ghost use Rattle.ct_base.specs.Wants.{missing};
-ghost use Rattle.ct_frames.specs.Agrees.{Agrees};
-ghost use Rattle.ct_pm.specs.Device.{NothingPending};
 ghost use Rattle.ct_pm.specs.Phase.{Phase};
 ghost use Rattle.ct_record.specs.declared.idle.Broken.{Broken};
 ghost use Rattle.ct_record.specs.Seen.{device_behind};
@@ -16,19 +14,20 @@ ghost use Rattle.ct_tree.specs.Tree.{Tree};
 ghost use Rattle.ct_call.specs.Answers.{IsPrepared};
 ghost use Rattle.ct_call.specs.Calls.{Does, StandsFor};
 ghost use Rattle.ct_enter.specs.Landing.{EntersOrNot};
-ghost use Rattle.ct_enter.specs.Makes.{HasNode, IsFreshName, kind_of, make_op};
-ghost use Rattle.ct_call.specs.Mounted.{IsAtRest};
-ghost use Rattle.ct_call.specs.Placed.{HasSlot, IsMoved, Places};
+ghost use Rattle.ct_enter.specs.Makes.{HasNode, IsFreshName, make_op};
+ghost use Rattle.ct_find.specs.Kinds.{kind_of};
+ghost use Rattle.ct_commit.specs.Rest.{IsMounted};
+ghost use Rattle.ct_call.specs.Placed.{HasSlot, IsMoved, Places, empty_inode};
 ghost use Rattle.ct_call.specs.Plans.{Fits, level_of};
 ghost use Rattle.ct_enter.specs.Plans.{IsEntryPlan};
 ghost use Rattle.ct_call.specs.Seen.{ready_in};
-ghost use Rattle.ct_enter.specs.Spots.{IsNewName, IsNextSlot};
+ghost use Rattle.ct_find.specs.Spots.{IsNewName, IsNextSlot};
 
 use crate::enter::enter;
 use crate::plan::entry_plan;
-use crate::spot::{Spot, find_spot};
-use ct_base::{DIRECTORY_KIND, FILE_KIND, MOST_GROWTH_PAIRS};
-use ct_call::{CallPlan, Failed, FsError, Mounted, State, check_space, room};
+use ct_base::{DIRECTORY_KIND, ENTRY_BYTES, FILE_KIND, MOST_GROWTH_PAIRS};
+use ct_call::{CallPlan, FsError, Mounted, State, check_space, ended, refused, room};
+use ct_find::{Kind, Spot, find_spot};
 use ct_frames::Frames;
 use ct_inode::{first_free, get};
 use ct_pm::Pm;
@@ -38,33 +37,13 @@ use ct_tree::Refusal;
 /// The word of a device that tells how many inodes there are.
 const INODES: u64 = 3;
 
-/// What a call makes.
-#[derive(Clone, Copy, Debug, PartialEq, Eq)]
-pub enum Kind {
-    File,
-    Directory,
-}
-
-impl Kind {
-    // The kind in an inode.
-    fn number(self) -> u64
-        ensures { result ≡ kind_of self }
-    {
-        match self {
-            Kind::File => FILE_KIND,
-            Kind::Directory => DIRECTORY_KIND,
-        }
-    }
-}
-
 // Where a new object's entry goes, its number, and what both take. Nothing is stored.
 fn prepare<'p, D: Pm>(
     dev: &D,
     frames: &Frames,
     path: &'p [u8],
 ) -> Result<(Spot<'p>, u64, CallPlan), Refusal>
-    requires rest { IsAtRest (D.words dev.now) }
-    requires agrees { Agrees (D.words dev.now) frames.now }
+    requires mounted { IsMounted (D.words dev.now) (D.told dev.now) frames.now }
     ensures answer { (kind : Kind) (t : Tree) → StandsFor (D.words dev.now) t → IsPrepared (D.words dev.now) t (make_op kind path.now) result }
     ensures spot { IfOk result (λ found. IsNewName (D.words dev.now) path.now found.0.dir found.0.inode found.0.offset found.0.name.now) }
     ensures first { IfOk result (λ found. first_free_number (view (D.words dev.now)) (inode_count (D.words dev.now)) ≡ Some found.1) }
@@ -96,9 +75,7 @@ fn carry_out<D: Pm>(
     plan: &CallPlan,
     kind: u64,
 ) -> Result<D, Broken<D>>
-    requires rest { IsAtRest (D.words dev) }
-    requires agrees { Agrees (D.words dev) frames.old }
-    requires settled { NothingPending (D.told dev) }
+    requires mounted { IsMounted (D.words dev) (D.told dev) frames.old }
     requires next { IsNextSlot (D.words dev) spot.now.dir spot.now.inode spot.now.offset }
     requires fresh { IsFreshName (D.words dev) spot.now.dir spot.now.name.now }
     requires first { first_free_number (view (D.words dev)) (inode_count (D.words dev)) ≡ Some number }
@@ -107,17 +84,16 @@ fn carry_out<D: Pm>(
     requires sort { (kind ≡ FILE_KIND) ⊎ (kind ≡ DIRECTORY_KIND) }
 
     ensures slot { OnOk result (HasSlot (files (D.words (device_behind result)) spot.now.dir) spot.now.offset number spot.now.name.now) }
+    ensures object { OnOk result (inode_at (view (D.words (device_behind result))) number ≡ empty_inode kind) }
+    ensures size { OnOk result ((inode_at (view (D.words (device_behind result))) spot.now.dir).size ≡ max spot.now.inode.size (spot.now.offset + ENTRY_BYTES)) }
     ensures moved { OnOk result ((level : ℕ) → level_of plan.now.growth ≡ Some level → IsMoved (λ v. ⊥) (D.words dev) (D.words (device_behind result)) spot.now.dir level) }
     ensures taken { OnOk result (length frames.new.free + missing (D.words dev) plan.now.wants ≡ length frames.old.free) }
     ensures node { OnOk result (HasNode (D.words dev) (D.words (device_behind result)) spot.now.dir spot.now.name.now kind) }
     ensures counted { OnOk result (inode_count (D.words (device_behind result)) ≡ inode_count (D.words dev)) }
-    ensures rest { OnOk result (IsAtRest (D.words (device_behind result))) }
-    ensures agrees { OnOk result (Agrees (D.words (device_behind result)) frames.new) }
-    ensures settled { OnOk result (NothingPending (D.told (device_behind result))) }
+    ensures mounted { OnOk result (IsMounted (D.words (device_behind result)) (D.told (device_behind result)) frames.new) }
 
     // A crash at any moment lands on the objects without the new one, or on those with it.
     ensures phase { Phase (EntersOrNot (files (D.words dev)) spot.now.dir spot.now.name.now kind) MOST_GROWTH_PAIRS (D.told dev) (D.told (device_behind result)) (D.words (device_behind result)) }
-    ensures pages { HasPages (D.words (device_behind result)) }
     ensures cause { HasCause (D.faults dev) (D.faults (device_behind result)) result }
 {
     let dev = room(dev, frames, spot.dir, plan)?;
@@ -144,22 +120,8 @@ pub fn make_in<D: Pm>(
     let Mounted { dev, mut frames } = mounted;
     let (spot, number, plan) = match prepare(&dev, &frames, path) {
         Ok(found) => found,
-        Err(refusal) => {
-            return (
-                State::Ready(Mounted { dev, frames }),
-                Err(FsError::Refused(refusal)),
-            );
-        }
+        Err(refusal) => return refused(dev, frames, refusal),
     };
-    match carry_out(dev, &mut frames, &spot, number, &plan, kind.number()) {
-        Ok(dev) => {
-            // Not the count is wanted, but what its contract says: the free pages are a list that can be counted.
-            let _ = frames.free();
-            (State::Ready(Mounted { dev, frames }), Ok(()))
-        }
-        Err(broken) => {
-            let Broken { dev } = broken;
-            (State::Dead(Failed { dev }), Err(FsError::Fault))
-        }
-    }
+    let carried = carry_out(dev, &mut frames, &spot, number, &plan, kind.number());
+    ended(carried, frames)
 }

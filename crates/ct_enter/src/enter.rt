@@ -1,10 +1,10 @@
 // The record of a new entry.
-ghost use Rattle.std.specs.Prelude.{◌≡◌, ◌≢◌, ◌⊎◌, ℕ, ◌+◌, ◌*◌, ◌/◌, ◌<◌, ◌≤◌, [], OnOk, slice_index};
+ghost use Rattle.std.specs.Prelude.{◌≡◌, ◌≢◌, ◌⊎◌, ℕ, ◌+◌, ◌*◌, ◌/◌, ◌<◌, ◌≤◌, [], OnOk, max, slice_index};
 ghost use Rattle.ct_base.specs.Causes.{HasCause};
+ghost use Rattle.ct_base.specs.Inode.{inode as inode_at};
 ghost use Rattle.ct_base.specs.Settled.{Named};
+ghost use Rattle.ct_base.specs.View.{view};
 ghost use Rattle.ct_base.specs.Walk.{page_at, AreTables};
-ghost use Rattle.ct_frames.specs.Agrees.{Agrees};
-ghost use Rattle.ct_frames.specs.Free.{FreePages};
 ghost use Rattle.ct_pm.specs.Device.{MakesOnly, NothingPending};
 ghost use Rattle.ct_pm.specs.Phase.{Phase};
 ghost use Rattle.ct_record.specs.Record.{InRecord};
@@ -12,16 +12,16 @@ ghost use Rattle.ct_record.specs.Seen.{Drafts, count_of, device_behind, drafted,
 ghost use Rattle.ct_words.specs.Drafted.{MapsAlike};
 ghost use Rattle.ct_tree.specs.Lands.{files};
 ghost use Rattle.ct_enter.specs.Landing.{EntersOrNot};
-ghost use Rattle.ct_call.specs.Mounted.{IsAtRest};
+ghost use Rattle.ct_commit.specs.Rest.{IsAtRest};
 ghost use Rattle.ct_enter.specs.Entry.{HasEntry, KeepsPart, IsEntryWord, IsFreeInode, IsSizeWord, IsSpot, RaisesSize, WritesEntry};
-ghost use Rattle.ct_call.specs.Placed.{HasSlot};
+ghost use Rattle.ct_call.specs.Placed.{HasSlot, empty_inode};
 
-use crate::spot::Spot;
 use ct_base::{
     DIRECTORY_KIND, ENTRY_BYTES, FILE_KIND, INODE_BYTES, Inode, MOST_INODES, MOST_LONG_PAIRS,
     NO_PARTITION, PAGE_BYTES,
 };
 use ct_dir::set;
+use ct_find::Spot;
 use ct_inode::put;
 use ct_pm::{Pm, PmFault};
 use ct_record::{Broken, Draft, Idle, conclude};
@@ -112,10 +112,10 @@ pub(crate) fn enter<D: Pm>(dev: D, spot: &Spot<'_>, number: u64, kind: u64) -> R
     requires sort { (kind ≡ FILE_KIND) ⊎ (kind ≡ DIRECTORY_KIND) }
 
     // After Ok the words stand for the tree with the object, and no table changed.
-    ensures rest { OnOk result (IsAtRest (D.words (device_behind result))) }
-    ensures agrees { (frames : FreePages) → Agrees (D.words dev) frames → OnOk result (Agrees (D.words (device_behind result)) frames) }
     ensures entry { OnOk result (HasEntry (D.words dev) (D.words (device_behind result)) spot.now.dir spot.now.name.now kind) }
     ensures slot { OnOk result (HasSlot (files (D.words (device_behind result)) spot.now.dir) spot.now.offset number spot.now.name.now) }
+    ensures object { OnOk result (inode_at (view (D.words (device_behind result))) number ≡ empty_inode kind) }
+    ensures size { OnOk result ((inode_at (view (D.words (device_behind result))) spot.now.dir).size ≡ max spot.now.inode.size (spot.now.offset + ENTRY_BYTES)) }
     ensures part { OnOk result (KeepsPart (D.words dev) (D.words (device_behind result)) spot.now.dir) }
     ensures settled { OnOk result (NothingPending (D.told (device_behind result))) }
 

@@ -7,9 +7,7 @@
 mod create;
 mod enter;
 mod plan;
-mod spot;
 
-pub use create::{Kind, make_in};
+pub use create::make_in;
 pub use enter::raise_size;
 pub use plan::entry_plan;
-pub use spot::{Spot, find_spot};

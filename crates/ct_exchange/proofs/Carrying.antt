@@ -8,22 +8,22 @@ use Rattle.ct_base.specs.Inode.{inode}
 use Rattle.ct_base.specs.Objects.{objects}
 use Rattle.ct_base.specs.Pieces.{pieces}
 use Rattle.ct_base.specs.Rules.{Owns}
-use Rattle.ct_base.specs.Settled.{HasPages, Pair, with_pairs}
+use Rattle.ct_base.specs.Settled.{HasPages, IsShut, Pair, with_pairs}
 use Rattle.ct_base.specs.View.{view, inode_count}
 use Rattle.ct_base.specs.Walk.{page_at}
 use Rattle.ct_base.specs.Wants.{Want, is_wanted}
 use Rattle.ct_frames.specs.Agrees.{Agrees}
 use Rattle.ct_frames.specs.Free.{FreePages}
-use Rattle.ct_grow.proofs.Carried.{off_record}
+use Rattle.ct_commit.proofs.States.{off_record}
 use Rattle.ct_pieces.proofs.Steps.{length-pieces_from}
 use Rattle.ct_plan.proofs.Same.{is_wanted-append}
 use Rattle.ct_plan.proofs.There.{few_both_there}
 use Rattle.ct_plan.specs.Few.{few_both_wants, few_wants}
 use Rattle.ct_pm.proofs.Phases.{phase_then, phase_weaker}
-use Rattle.ct_pm.specs.Device.{SameOff}
+use Rattle.ct_pm.specs.Device.{NothingPending, SameOff}
 use Rattle.ct_pm.specs.Images.{History}
 use Rattle.ct_pm.specs.Phase.{Phase}
-use Rattle.ct_record.proofs.Ended.{ok_then}
+use Rattle.ct_record.proofs.Ended.{ok_both, ok_then}
 use Rattle.ct_record.specs.Record.{Concluded, InRecord}
 use Rattle.ct_state.proofs.Carry.{files-same}
 use Rattle.ct_state.proofs.Settle.{alike_off}
@@ -33,14 +33,18 @@ use Rattle.ct_swap.specs.Swap.{swap_pairs}
 use Rattle.ct_tree.specs.Lands.{files}
 use Rattle.ct_walk.specs.Has.{HasAll}
 use Rattle.ct_write.proofs.Paths.{all_met, no_pages, none_below}
-use Rattle.ct_call.proofs.Turned.{Turns, TurnsOrNot, turned_agrees, turned_phase, turned_rest}
-use Rattle.ct_call.specs.Landing.{LandsAs}
-use Rattle.ct_call.specs.Mounted.{AreOwned, IsAtRest, OffFiles}
+use Rattle.ct_commit.specs.Made.{Turns}
+use Rattle.ct_commit.proofs.Given.{given_made, given_settles, given_spares}
+use Rattle.ct_commit.proofs.Made.{made_phase}
+use Rattle.ct_commit.proofs.Resting.{agrees_beside, rest_beside, unstaged_beside}
+use Rattle.ct_commit.specs.Landing.{LandsAs, LandsOnEither}
+use Rattle.ct_call.specs.Mounted.{AreOwned, OffFiles}
+use Rattle.ct_commit.specs.Rest.{IsAtRest, IsMounted, IsUnstaged}
 use Rattle.ct_exchange.specs.declared.plan.Ranges.{Ranges}
 use Rattle.ct_exchange.specs.Ranges.{AreApart, first_page, page_of, second_page, wants_of}
 use Rattle.ct_exchange.specs.Swapped.{HasSwapped, SwapsOrNot, files_after}
 use Rattle.ct_exchange.proofs.Contents.{Places, places}
-use Rattle.ct_exchange.proofs.Recording.{exchange_turns, turned_count, turned_files}
+use Rattle.ct_exchange.proofs.Recording.{exchange_turns, frames_stay, turned_count, turned_files, unstaged_after}
 use Rattle.ct_exchange.proofs.Ruled.{pages_apart, space_of}
 
 neither : (p q : Bool) → p ≡ false → q ≡ false → (p || q) ≡ false
@@ -197,7 +201,7 @@ module _ {w0 w1 : List ℕ} {r : Ranges} {a b n : ℕ} (t : Tabled w0 w1 r a b n
   swap_files : files (with_pairs pairs w1) ≡ files_after w0 r
   swap_files = at_pages_on (λ x y k. files (with_pairs (swap_pairs w1 x y (pieces x y k)) w1) ≡ files_after w1 r) (turned_files t.rest_on (can_on t.alike t.can) there_on) ∙ after_on t.alike t.can
 
-  turned : (image : List ℕ) → TurnsOrNot w1 pairs image → SwapsOrNot w0 r image
+  turned : (image : List ℕ) → LandsOnEither (files w1) (files (with_pairs pairs w1)) image → SwapsOrNot w0 r image
   turned image (inl lands) = inl (subst (λ fs. LandsAs fs image) (files-same t.alike) lands)
   turned image (inr lands) = inr (subst (λ fs. LandsAs fs image) swap_files lands)
 
@@ -211,13 +215,17 @@ module _ {w0 w1 : List ℕ} {r : Ranges} {a b n : ℕ} (t : Tabled w0 w1 r a b n
   -- once its record has come to its end
   module _ {T E : Type 0} {mid told : Option History} {now : List ℕ} {result : Result T E} (c : Concluded w1 mid (swap_pairs w1 a b (pieces a b n)) (2 * length (pieces a b n)) now told result) where
     pub swapped_phase : {start : Option History} → Phase (LandsAs (files w0)) 0 start mid w1 → Phase (SwapsOrNot w0 r) 8000 start told now
-    swapped_phase first = phase_then (phase_weaker (SwapsOrNot w0 r) (λ image lands. inl lands) (omega arith) first) (phase_weaker (SwapsOrNot w0 r) turned swap_few (turned_phase swap_turns c))
+    swapped_phase first = phase_then (phase_weaker (SwapsOrNot w0 r) (λ image lands. inl lands) (omega arith) first) (phase_weaker (SwapsOrNot w0 r) turned swap_few (made_phase (given_made swap_turns) (given_spares swap_turns) (given_settles swap_turns) c))
 
-    pub swapped_rest : OnOk result (IsAtRest now)
-    swapped_rest = turned_rest swap_turns c
-
-    pub swapped_agrees : (frames : FreePages) → Agrees w1 frames → OnOk result (Agrees now frames)
-    swapped_agrees frames agrees = turned_agrees swap_turns c frames agrees
+    pub swapped_mounted : {frames : FreePages} → IsMounted w1 mid frames → OnOk result (IsMounted now told frames)
+    swapped_mounted {frames} m =
+        let S : Type 0 = SameOff InRecord now (with_pairs pairs w1) in
+        ok_then (S × (IsShut now × NothingPending told)) result (λ has. record {
+          rest = rest_beside swap_turns.after has.0 has.1.0;
+          unstaged = unstaged_beside swap_turns.after has.0 has.1.0 (at_pages_on (λ x y k. IsUnstaged (with_pairs (swap_pairs w1 x y (pieces x y k)) w1)) (unstaged_after t.rest_on (can_on t.alike t.can) there_on m.unstaged));
+          settled = has.1.1;
+          agrees = agrees_beside swap_turns.after has.0 has.1.0 (at_pages_on (λ x y k. Agrees (with_pairs (swap_pairs w1 x y (pieces x y k)) w1) frames) (frames_stay t.rest_on (can_on t.alike t.can) there_on frames m.agrees));
+        }) (ok_both S (IsShut now × NothingPending told) result c.words (ok_both (IsShut now) (NothingPending told) result c.shut c.settled))
 
     pub swapped_files : OnOk result (files now ≡ files_after w0 r)
     swapped_files = ok_then (SameOff InRecord now (with_pairs pairs w1)) result (λ same. files-same (alike_off (off_record same)) ∙ swap_files) c.words

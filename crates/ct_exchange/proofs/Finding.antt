@@ -17,7 +17,7 @@ use Rattle.ct_tree.specs.Tree.{Tree, File, Dir, Entries}
 use Rattle.ct_tree.specs.declared.call.Refusal.{Refusal}
 use Rattle.ct_tree.specs.declared.call.Refusal.TheVariants.{BadPath as bad, IsDir as a_dir}
 use Rattle.ct_call.specs.Calls.{StandsFor}
-use Rattle.ct_call.specs.Mounted.{IsAtRest}
+use Rattle.ct_commit.specs.Rest.{IsAtRest}
 use Rattle.ct_exchange.specs.Found.{IsFileAt, found_both, path_checks}
 
 -- ---- the checks by what they find

@@ -5,5 +5,6 @@ pub mod Ruled
 pub mod Recording
 pub mod Carrying
 pub mod Finding
+pub mod Nothing
 pub mod Preparing
 pub mod Told

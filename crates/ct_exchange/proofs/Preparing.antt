@@ -30,7 +30,7 @@ use Rattle.ct_tree.specs.declared.call.Refusal.{Refusal}
 use Rattle.ct_tree.specs.declared.call.Refusal.TheVariants.{BadRange, Overlap, TooLong}
 use Rattle.ct_call.specs.Answers.{HasOnlyPlan, LacksInode}
 use Rattle.ct_call.specs.Calls.{StandsFor}
-use Rattle.ct_call.specs.Mounted.{IsAtRest}
+use Rattle.ct_commit.specs.Rest.{IsAtRest}
 use Rattle.ct_call.specs.Plans.{IsGrowth, Plans, level_of}
 use Rattle.ct_call.specs.declared.plan.CallPlan.{CallPlan}
 use Rattle.ct_call.specs.declared.plan.Growth.TheVariants.{Stays}

@@ -7,7 +7,7 @@ use Rattle.ct_base.specs.Inode.{inode}
 use Rattle.ct_base.specs.Objects.{objects}
 use Rattle.ct_base.specs.Pieces.{pieces}
 use Rattle.ct_base.specs.Rules.{Sound}
-use Rattle.ct_base.specs.Settled.{IsRecord, IsShut, Named, Pair, with_pairs}
+use Rattle.ct_base.specs.Settled.{IsShut, Named, Pair, with_pairs}
 use Rattle.ct_base.specs.View.{view, inode_count}
 use Rattle.ct_base.specs.Walk.{word, page_at}
 use Rattle.ct_frames.specs.Agrees.{Agrees}
@@ -18,16 +18,16 @@ use Rattle.ct_image.proofs.Steps.{page_at-low}
 use Rattle.ct_pm.specs.Device.{SameOff}
 use Rattle.ct_record.proofs.Lawful.{pairs_shut}
 use Rattle.ct_record.specs.Record.{AreApart, InRecord}
-use Rattle.ct_state.proofs.States.{head_of, head_on, head_rules}
 use Rattle.ct_state.proofs.Write.{HasSpace}
 use Rattle.ct_swap.proofs.Pairing.{pswap_exchanged}
 use Rattle.ct_swap.specs.Swap.{swap_pairs}
 use Rattle.ct_tree.specs.Lands.{files}
 use Rattle.ct_write.proofs.Reaching.{fresh_agree}
-use Rattle.ct_call.proofs.FilePages.{file_cell}
-use Rattle.ct_call.proofs.Neutral.{no_entry, no_table}
-use Rattle.ct_call.proofs.Turned.{Turns}
-use Rattle.ct_call.specs.Mounted.{IsAtRest}
+use Rattle.ct_commit.proofs.Pages.{file_cell}
+use Rattle.ct_commit.specs.Made.{Turns}
+use Rattle.ct_commit.proofs.Resting.{slots_stay}
+use Rattle.ct_commit.proofs.States.{head_over}
+use Rattle.ct_commit.specs.Rest.{IsAtRest, IsUnstaged}
 use Rattle.ct_exchange.specs.Ranges.{CanExchange, page_of}
 use Rattle.ct_exchange.proofs.Changed.{Swaps, partner-between}
 use Rattle.ct_exchange.proofs.Contents.{room_of}
@@ -81,37 +81,20 @@ module _ {was : List ℕ} {i off j other len : ℕ} (rest : IsAtRest was) (can :
   swaps = swaps_of can space exchanges head_stays
 
   -- the staging slots stay empty
-  unstaged_after : (k : ℕ) → k < 8 → word after (33 * 512 + 2 + k) ≡ 0
-  unstaged_after k lt =
-      let none : page_at was 1 (2 + k) ≡ 0 = no_table was (2 + k) (omega (arith, lt)) (ap (word was) (omega arith) ∙ rest.unstaged k lt) in
+  pub unstaged_after : IsUnstaged was → IsUnstaged after
+  unstaged_after none =
       let s = swaps in
+      slots_stay was after s.exchanged.tables (λ k lt.
       let cell : (2 + k) * 2 ^ 27 / 512 ^ (4 - 1) ≡ 2 + k = omega arith in
-      let stays = s.exchanged.cells 1 ((2 + k) * 2 ^ 27) (omega arith) (record { first = λ le. absurd (omega (arith, le, lt, s.first_from)); second = λ le. absurd (omega (arith, le, lt, s.second_from)) }) in
-      let now : page_at after 1 (2 + k) ≡ 0 = ap (page_at after 1) (sym cell) ∙ stays ∙ ap (page_at was 1) cell ∙ none in
-      ap (word after) (omega arith) ∙ no_entry after (2 + k) (omega (arith, lt)) s.exchanged.tables now
+      ap (page_at after 1) (sym cell)
+      ∙ s.exchanged.cells 1 ((2 + k) * 2 ^ 27) (omega arith) (record { first = λ le. absurd (omega (arith, le, lt, s.first_from)); second = λ le. absurd (omega (arith, le, lt, s.second_from)) })
+      ∙ ap (page_at was 1) cell) none
 
   shut_after : IsShut after
   shut_after = pairs_shut pairs was pairs_apart rest.shut
 
-  shut_lawful : IsRecord after
-  shut_lawful =
-      let shut = shut_after in
-      record {
-        long = omega (arith, shut.0);
-        short = omega (arith, shut.1);
-        one = λ _. shut.1;
-        long_targets = λ k lt. absurd (omega (arith, lt, shut.0));
-        short_targets = λ k lt. absurd (omega (arith, lt, shut.1));
-      }
-
   rest_after : IsAtRest after
-  rest_after = record {
-    head = head_of (λ r. head_on (record { lawful = rest.head.recorded; lawful_too = shut_lawful; words = head_stays; size = length-with_pairs pairs was }) r (head_rules rest.head r));
-    sound = sound_after can space swaps rest.sound;
-    shut = shut_after;
-    unstaged = unstaged_after;
-    tables = swaps.exchanged.tables;
-  }
+  rest_after = record { head = head_over rest.head head_stays (length-with_pairs pairs was) shut_after; sound = sound_after can space swaps rest.sound; shut = shut_after; tables = swaps.exchanged.tables }
 
   off_was : (w : ℕ) → Named pairs w → IsFilePage was (w / 512) → ⊥
   off_was w named is =
@@ -130,11 +113,11 @@ module _ {was : List ℕ} {i off j other len : ℕ} (rest : IsAtRest was) (can :
       let at = partner-between (10 * 2 ^ 27) (2 ^ 36) a b n q s.first_from s.second_from s.first_to s.second_to low (omega (arith, high, most)) in
       pairs_spare w named (partner a b n q) at.0 (sym (s.exchanged.pages q) ∙ file_cell after sound is)
 
-  frames_stay : (frames : FreePages) → Agrees was frames → Agrees after frames
+  pub frames_stay : (frames : FreePages) → Agrees was frames → Agrees after frames
   frames_stay frames agrees = fresh_agree swaps.exchanged.count swaps.exchanged.fresh swaps.exchanged.reached agrees
 
   pub exchange_turns : Turns was pairs
-  exchange_turns = record { rest = rest; after = rest_after; off = off_was; off_after = off_after; frames = frames_stay }
+  exchange_turns = record { rest = rest; after = rest_after; apart = pairs_apart; off = off_was; off_after = off_after }
 
   -- and the objects are those with the two ranges exchanged
   pub turned_files : files after ≡ objects (λ v. view was (partner ((inode (view was) i).base + off) ((inode (view was) j).base + other) len v)) (inode_count was)

@@ -8,7 +8,7 @@ use Rattle.ct_base.specs.Walk.{page_at, walk}
 use Rattle.ct_base.specs.declared.layout.TheConstants.{ADDRESS_END, PAGE_BYTES, PARTITION_SLOT, SLOT_SPAN}
 use Rattle.ct_tree.specs.Lands.{files}
 use Rattle.ct_tree.specs.Need.{IsAt}
-use Rattle.ct_call.specs.Landing.{LandsAs}
+use Rattle.ct_commit.specs.Landing.{LandsAs}
 use Rattle.ct_exchange.specs.Ranges.{first_page, second_page}
 use Rattle.ct_exchange.specs.declared.plan.Ranges.{Ranges}
 

@@ -6,7 +6,7 @@ ghost use Rattle.ct_tree.specs.Checks.{Passes, first_of};
 ghost use Rattle.ct_tree.specs.Tree.{Tree};
 ghost use Rattle.ct_tree.specs.declared.call.Refusal.{Refusal as Refused};
 ghost use Rattle.ct_call.specs.Calls.{StandsFor};
-ghost use Rattle.ct_call.specs.Mounted.{IsAtRest};
+ghost use Rattle.ct_commit.specs.Rest.{IsAtRest};
 ghost use Rattle.ct_exchange.specs.Found.{IsFileAt, found_both, number_checks, path_checks};
 
 use ct_base::{DIRECTORY_KIND, PAGE_BYTES};

@@ -2,11 +2,8 @@
 ghost use Rattle.std.specs.Prelude.{◌≡◌, ◌≢◌, ℕ, ◌+◌, ◌≤◌, length, Some, Err, IsSomeAnd, IfOk, OnOk};
 ghost use Rattle.ct_base.specs.Causes.{HasCause};
 ghost use Rattle.ct_base.specs.Free.{HasFreePages};
-ghost use Rattle.ct_base.specs.Settled.{HasPages};
 ghost use Rattle.ct_base.specs.View.{inode_count};
 ghost use Rattle.ct_base.specs.Wants.{missing};
-ghost use Rattle.ct_frames.specs.Agrees.{Agrees};
-ghost use Rattle.ct_pm.specs.Device.{NothingPending};
 ghost use Rattle.ct_pm.specs.Phase.{Phase};
 ghost use Rattle.ct_record.specs.Seen.{device_behind};
 ghost use Rattle.ct_tree.specs.Lands.{files};
@@ -15,7 +12,7 @@ ghost use Rattle.ct_tree.specs.Step.{exchange};
 ghost use Rattle.ct_tree.specs.Tree.{Tree};
 ghost use Rattle.ct_call.specs.Answers.{IsPrepared};
 ghost use Rattle.ct_call.specs.Calls.{Does, StandsFor};
-ghost use Rattle.ct_call.specs.Mounted.{IsAtRest};
+ghost use Rattle.ct_commit.specs.Rest.{IsMounted};
 ghost use Rattle.ct_call.specs.Placed.{Places};
 ghost use Rattle.ct_call.specs.Seen.{ready_in};
 ghost use Rattle.ct_exchange.specs.Found.{IsFileAt};
@@ -25,7 +22,7 @@ ghost use Rattle.ct_exchange.specs.Swapped.{HasSwapped, SwapsOrNot, SwapsWalks, 
 use crate::check::{check_numbers, two_files};
 use crate::plan::Ranges;
 use ct_base::MOST_EXCHANGE_PAIRS;
-use ct_call::{CallPlan, Failed, FsError, Mounted, State, check_space, make_pages};
+use ct_call::{CallPlan, FsError, Mounted, State, check_space, ended, make_pages, refused};
 use ct_frames::Frames;
 use ct_inode::get;
 use ct_pm::Pm;
@@ -43,13 +40,12 @@ fn prepare<D: Pm>(
     other_off: u64,
     len: u64,
 ) -> Result<(Ranges, CallPlan), Refusal>
-    requires rest { IsAtRest (D.words dev.now) }
-    requires agrees { Agrees (D.words dev.now) frames.now }
+    requires mounted { IsMounted (D.words dev.now) (D.told dev.now) frames.now }
     ensures answer { (t : Tree) → StandsFor (D.words dev.now) t → IsPrepared (D.words dev.now) t (exchange path.now off other.now other_off len) result }
     ensures first { IfOk result (λ found. IsFileAt (D.words dev.now) path.now found.0.first) }
     ensures second { IfOk result (λ found. IsFileAt (D.words dev.now) other.now found.0.second) }
     ensures numbers { IfOk result (λ found. found.0 ≡ record { first = found.0.first; off = off; second = found.0.second; other_off = other_off; len = len }) }
-    ensures can { IfOk result (λ found. 1 ≤ len → AreApart (D.words dev.now) found.0) }
+    ensures can { IfOk result (λ found. 1 ≤ found.0.len → AreApart (D.words dev.now) found.0) }
     ensures wants { IfOk result (λ found. found.1.wants ≡ wants_of (D.words dev.now) found.0) }
     ensures pages { IfOk result (λ found. missing (D.words dev.now) found.1.wants ≤ length frames.now.free) }
     ensures need { IfOk result (λ found. (need : ℕ) → HasNeed (D.words dev.now) (exchange path.now off other.now other_off len) need → need ≡ missing (D.words dev.now) found.1.wants) }
@@ -73,17 +69,15 @@ fn prepare<D: Pm>(
     }
 }
 
-// Makes the tables on both sides, and exchanges the ranges by one record.
+// Makes the tables on both sides, and exchanges the ranges by one record. Without bytes there is nothing to exchange.
 fn carry_out<D: Pm>(
     dev: D,
     frames: &mut Frames,
     ranges: &Ranges,
     plan: &CallPlan,
 ) -> Result<D, Broken<D>>
-    requires rest { IsAtRest (D.words dev) }
-    requires agrees { Agrees (D.words dev) frames.old }
-    requires settled { NothingPending (D.told dev) }
-    requires can { AreApart (D.words dev) ranges.now }
+    requires mounted { IsMounted (D.words dev) (D.told dev) frames.old }
+    requires can { 1 ≤ ranges.now.len → AreApart (D.words dev) ranges.now }
     requires wants { plan.now.wants ≡ wants_of (D.words dev) ranges.now }
     requires pages { missing (D.words dev) plan.now.wants ≤ length frames.old.free }
 
@@ -91,15 +85,15 @@ fn carry_out<D: Pm>(
     ensures files { OnOk result (files (D.words (device_behind result)) ≡ files_after (D.words dev) ranges.now) }
     ensures taken { OnOk result (length frames.new.free + missing (D.words dev) plan.now.wants ≡ length frames.old.free) }
     ensures counted { OnOk result (inode_count (D.words (device_behind result)) ≡ inode_count (D.words dev)) }
-    ensures rest { OnOk result (IsAtRest (D.words (device_behind result))) }
-    ensures agrees { OnOk result (Agrees (D.words (device_behind result)) frames.new) }
-    ensures settled { OnOk result (NothingPending (D.told (device_behind result))) }
+    ensures mounted { OnOk result (IsMounted (D.words (device_behind result)) (D.told (device_behind result)) frames.new) }
 
     // A crash at any moment lands on the objects before the exchange, or on those after it.
     ensures phase { Phase (SwapsOrNot (D.words dev) ranges.now) MOST_EXCHANGE_PAIRS (D.told dev) (D.told (device_behind result)) (D.words (device_behind result)) }
-    ensures held { HasPages (D.words (device_behind result)) }
     ensures cause { HasCause (D.faults dev) (D.faults (device_behind result)) result }
 {
+    if ranges.len == 0 {
+        return Ok(dev);
+    }
     let (a, b, n) = ranges.pages(&dev);
     let mut dev = dev;
     match make_pages(&mut dev, frames, plan.wants.as_slice()) {
@@ -127,25 +121,8 @@ pub fn exchange_in<D: Pm>(
     let Mounted { dev, mut frames } = mounted;
     let (ranges, plan) = match prepare(&dev, &frames, path, off, other, other_off, len) {
         Ok(found) => found,
-        Err(refusal) => {
-            return (
-                State::Ready(Mounted { dev, frames }),
-                Err(FsError::Refused(refusal)),
-            );
-        }
+        Err(refusal) => return refused(dev, frames, refusal),
     };
-    if len == 0 {
-        return (State::Ready(Mounted { dev, frames }), Ok(()));
-    }
-    match carry_out(dev, &mut frames, &ranges, &plan) {
-        Ok(dev) => {
-            // Not the count is wanted, but what its contract says: the free pages are a list that can be counted.
-            let _ = frames.free();
-            (State::Ready(Mounted { dev, frames }), Ok(()))
-        }
-        Err(broken) => {
-            let Broken { dev } = broken;
-            (State::Dead(Failed { dev }), Err(FsError::Fault))
-        }
-    }
+    let carried = carry_out(dev, &mut frames, &ranges, &plan);
+    ended(carried, frames)
 }

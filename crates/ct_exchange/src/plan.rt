@@ -1,7 +1,7 @@
 // What an exchange asks for.
 ghost use Rattle.std.specs.Prelude.{◌≡◌, ◌+◌, ◌*◌, ◌/◌, ◌≤◌};
 ghost use Rattle.ct_plan.specs.Few.{few_both_wants};
-ghost use Rattle.ct_call.specs.Mounted.{IsAtRest};
+ghost use Rattle.ct_commit.specs.Rest.{IsAtRest};
 
 use ct_base::{PAGE_BYTES, SLOT_PAGES, TABLE_ENTRIES};
 use ct_call::{CallPlan, Growth};

@@ -18,7 +18,7 @@ use Rattle.ct_tree.specs.Stands.{Stands}
 use Rattle.ct_tree.specs.Tree.{Dir, none}
 use Rattle.ct_call.specs.Calls.{StandsFor}
 use Rattle.ct_format.specs.Made.{IsNew}
-use Rattle.ct_call.specs.Mounted.{IsMounted}
+use Rattle.ct_commit.specs.Rest.{IsMounted}
 
 -- the pages from lo on, n of them
 pub in_rising : (n lo q : ℕ) → lo ≤ q → q < lo + n → Contains (rising n lo) q
@@ -185,11 +185,8 @@ is_new {img = img} {frames = frames} {pages = pages} {n = n} f many few size two
 -- a file system that was made just now is as a mounted one is between its calls
 pub new_mounted : {img : List ℕ} {frames : FreePages} {pages n : ℕ} {told : Option History} → IsNew img frames pages n → NothingPending told → IsMounted img told frames
 new_mounted new settled = record {
-  head = new.lands.head;
-  sound = new.sound;
-  shut = (new.formatted.long, new.formatted.short);
+  rest = record { head = new.lands.head; sound = new.sound; shut = (new.formatted.long, new.formatted.short); tables = new.tables };
   unstaged = fresh_unstaged new.formatted;
-  tables = new.tables;
   settled = settled;
   agrees = new.agrees;
 }

@@ -6,7 +6,7 @@ use Rattle.std.proofs.lemmas.List.{get_or-take}
 use Rattle.std.proofs.lemmas.Grind.{get_or_after_one}
 use Rattle.ct_pm.specs.Images.{History}
 use Rattle.ct_pm.specs.Device.{MakesOnly, QuietOff, SameOff, IsIn, IsValueOf, Puts, MayPut, WrittenBack}
-use Rattle.ct_pm.proofs.Made.{makes_none, makes_then, makes_weaker}
+use Rattle.ct_pm.proofs.Made.{makes_then, makes_weaker}
 use Rattle.ct_pm.proofs.Quiet.{quiet_here, quiet_then}
 use Rattle.ct_format.specs.Formatting.{IsGate, Lays, Laid}
 
@@ -25,13 +25,6 @@ same_wider within same = record { size = same.size; others = λ w off. same.othe
 
 pub same_then : {Moved : ℕ → Type 0} {a b c : List ℕ} → SameOff Moved b a → SameOff Moved c b → SameOff Moved c a
 same_then first second = record { size = second.size ∙ first.size; others = λ w off. second.others w off ∙ first.others w off }
-
-pub lays_none : (Moved : ℕ → Type 0) (words : List ℕ) (told : Option History) → Lays Moved words words told told
-lays_none Moved words told = record {
-  same = record { size = refl; others = λ w off. refl };
-  quiet = quiet_here Moved told;
-  made = makes_none (λ at put. Moved at) told;
-}
 
 pub lays_wider : {Moved More : ℕ → Type 0} {was words : List ℕ} {old new : Option History} → ((w : ℕ) → Moved w → More w) → Lays Moved was words old new → Lays More was words old new
 lays_wider {More = More} {old = old} within a = record {

@@ -5,7 +5,6 @@ use Rattle.std.proofs.lemmas.Option.{none-some, same_Some}
 use Rattle.ct_pm.specs.Device.{NothingPending}
 use Rattle.ct_tree.specs.Tree.{Dir, none}
 use Rattle.ct_format.proofs.Fresh.{new_mounted}
-use Rattle.ct_call.proofs.Resting.{mounted_rest}
 use Rattle.ct_call.specs.Calls.{Holds, Keeps}
 use Rattle.ct_format.specs.Made.{IsNew}
 use Rattle.ct_call.specs.Mounted.{Volume}
@@ -29,4 +28,4 @@ pub new_keeps : {D : Type 0} {bound : _} (fs : Fs D bound) (now : Volume D) {pag
     → Keeps n fs.state (Dir none)
 new_keeps {D = D} {bound = bound} fs now {n = n} is new settled =
     subst (λ (o : Option (Volume D)). IsSomeAnd o (λ v. Holds n (Dir none) (bound.words v.dev) (bound.told v.dev))) (sym is)
-    (record { rest = mounted_rest (new_mounted new settled); stands = new.stands; lasts = settled; counted = new.formatted.inodes })
+    (record { rest = (new_mounted new settled).rest; unstaged = (new_mounted new settled).unstaged; stands = new.stands; lasts = settled; counted = new.formatted.inodes })

@@ -1,6 +1,6 @@
 // A mounted file system.
 ghost use Rattle.std.specs.Prelude.{◌≡◌, Some, None, IfOk, IsSome};
-ghost use Rattle.ct_call.specs.Mounted.{IsMounted};
+ghost use Rattle.ct_commit.specs.Rest.{IsMounted};
 
 use ct_call::{Failed, Mounted, State};
 use ct_frames::Frames;

@@ -37,8 +37,8 @@ impl Model for Gen {
     ghost invariant = { λ g. g.files ≤ 16 };
 }
 
-// The state after one draw more.
-fn step(state: u64) -> u64
+/// The state of the generator after one draw more. A draw is its upper half.
+pub fn step(state: u64) -> u64
     ensures { result ≡ next_state state }
 {
     state

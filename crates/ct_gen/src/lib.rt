@@ -6,5 +6,5 @@
 mod calls;
 mod gen_call;
 
-pub use calls::{Gen, MOST_DRAWS};
+pub use calls::{Gen, MOST_DRAWS, step};
 pub use gen_call::GenCall;

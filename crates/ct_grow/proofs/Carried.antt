@@ -1,49 +1,38 @@
 -- What a crash may leave while an object moves, and the states to which it settles.
-use Rattle.std.proofs.Common.{◌≡◌, ℕ, ◌*◌, ◌^◌, ◌≤◌, List, sym, subst, ◌∙◌, ◌⊎◌, inl, inr, arith}
+use Rattle.std.proofs.Common.{◌≡◌, ℕ, ◌*◌, ◌^◌, ◌≤◌, List, sym, subst, ◌∙◌, inl, arith}
 use Rattle.std.specs.Prelude.{Option}
 use Rattle.ct_base.specs.Inode.{inode, Partition, IsPart}
 use Rattle.ct_base.specs.Plan.{growth_wants}
-use Rattle.ct_base.specs.Rules.{IsMappedInParts, mapped}
-use Rattle.ct_base.specs.Settled.{Pair, Named, HasFewPairs, IsShut, IsRecord}
-use Rattle.ct_base.specs.Spares.{SparesReplay}
+use Rattle.ct_base.specs.Rules.{IsMappedInParts, mapped, placed}
+use Rattle.ct_base.specs.Settled.{Pair, Named, IsShut}
 use Rattle.ct_base.specs.State.{SameState}
 use Rattle.ct_base.specs.View.{view, inode_count}
 use Rattle.ct_base.specs.Walk.{page_at}
 use Rattle.ct_frames.specs.Free.{FreePages}
 use Rattle.ct_pm.specs.Images.{History}
-use Rattle.ct_pm.specs.Device.{LeavesOnly, SameOff}
+use Rattle.ct_pm.specs.Device.{LeavesOnly}
 use Rattle.ct_pm.specs.Phase.{Crash}
-use Rattle.ct_pm.proofs.Told.{both, weaker}
-use Rattle.ct_record.specs.Record.{InRecord, SettlesTo}
-use Rattle.ct_record.proofs.Lawful.{settles_head, shut_few}
+use Rattle.ct_pm.proofs.Told.{weaker}
+use Rattle.ct_record.proofs.Lawful.{shut_few}
 use Rattle.ct_record.proofs.Settles.{open_shut}
 use Rattle.ct_state.specs.Alike.{Alike, IsWhole}
 use Rattle.ct_state.proofs.Carry.{view-same}
 use Rattle.ct_state.proofs.Neutral.{seen-bounds}
-use Rattle.ct_state.proofs.Settle.{AgreeOffRecord}
-use Rattle.ct_state.proofs.Shut.{shut_state, shut_whole}
-use Rattle.ct_state.proofs.States.{off_state, state_then}
+use Rattle.ct_state.proofs.Shut.{shut_state}
 use Rattle.ct_walk.specs.Growth.{Grown}
-use Rattle.ct_grow.specs.Drafted.{Moves}
-use Rattle.ct_grow.specs.Grown.{IsReady, Promoted}
-use Rattle.ct_grow.specs.Moments.{SettlesMoved, IsBeforeOrAfter}
+use Rattle.ct_commit.specs.Closed.{IsClosed}
+use Rattle.ct_grow.specs.Grown.{IsReady}
+use Rattle.ct_grow.specs.Moments.{IsBeforeOrAfter}
 use Rattle.ct_grow.proofs.Heads.{path_bounds}
 use Rattle.ct_grow.proofs.Wanting.{unwanted}
 
 -- ---- states
 
-pub off_record : {f g : List ℕ} → SameOff InRecord g f → AgreeOffRecord f g
-off_record same = record { words = λ w out. same.others w (λ is. elim out [ inl low ↦ omega (arith, is.0) | inr high ↦ omega (arith, is.1) ]); size = same.size }
-
 pub whole_of : {img : List ℕ} → IsReady img → IsWhole img
 whole_of r = record { tables = r.tables; mapped = r.rules mapped (omega arith) }
 
--- what settles to words with closed gates has their state
-pub settles_state : {words image : List ℕ} → IsShut words → IsWhole words → IsRecord image → SettlesTo words image → SameState words image
-settles_state {words} {image} shut whole lawful settles =
-    let own = (shut_few 0 words shut).lawful in
-    let head = settles_head words image own lawful settles in
-    off_state (record { lawful = own; lawful_too = lawful; words = head.head; size = head.size }) (off_record settles) (shut_whole shut whole)
+pub ready_closed : {img : List ℕ} → IsReady img → IsClosed img
+ready_closed r = record { shut = r.shut; whole = whole_of r; placed = r.rules placed (omega arith) }
 
 -- pages that are made for growth change no state
 pub record Making (w0 : List ℕ) (i : ℕ) (p : Partition) : Type 0 where
@@ -83,32 +72,3 @@ module _ {w0 : List ℕ} {i : ℕ} {p : Partition} (m : Making w0 i p) where
   -- while pages are made
   pub making_moments : {start told : Option History} {before after : FreePages} → LeavesOnly start told (λ image. Grown w0 image (growth_wants (inode (view w0) i) p) before after) → LeavesOnly start told (Crash (IsBeforeOrAfter w0 i p) 150)
   making_moments moments = weaker (Crash (IsBeforeOrAfter w0 i p) 150) (λ image g. making_image g) moments
-
-  -- and while the object moves
-  pub moving_image : {w1 : List ℕ} {before after : FreePages} → Grown w0 w1 (growth_wants (inode (view w0) i) p) before after
-      → ((w2 : List ℕ) → Moves w1 w2 i (inode (view w0) i) p → IsShut w2 → Promoted w0 w2 i p × IsReady w2)
-      → (image : List ℕ) → SettlesMoved w1 i (inode (view w0) i) p image → SparesReplay image → Crash (IsBeforeOrAfter w0 i p) 150 image
-  moving_image {w1} g grow image has spares = record {
-    few = has.few;
-    spares = spares;
-    has = elim has.to [
-      | inl none ↦ inl (state_then (made_state g) (settles_state (made_shut g) (made_whole g) has.few.lawful none))
-      | inr all ↦
-          let both = grow all.after all.moves all.shut in
-          inr (record { after = all.after; promoted = both.0; ready = both.1; state = settles_state all.shut (whole_of both.1) has.few.lawful all.settles })
-    ];
-  }
-
-  pub moving_moments : {w1 : List ℕ} {mid told : Option History} {before after : FreePages} → Grown w0 w1 (growth_wants (inode (view w0) i) p) before after
-      → ((w2 : List ℕ) → Moves w1 w2 i (inode (view w0) i) p → IsShut w2 → Promoted w0 w2 i p × IsReady w2)
-      → ((image : List ℕ) → SettlesMoved w1 i (inode (view w0) i) p image → SparesReplay image)
-      → LeavesOnly mid told (SettlesMoved w1 i (inode (view w0) i) p) → LeavesOnly mid told (Crash (IsBeforeOrAfter w0 i p) 150)
-  moving_moments g grow spares moments = weaker (Crash (IsBeforeOrAfter w0 i p) 150) (λ image has. moving_image g grow image has (spares image has)) moments
-
-  -- once it has moved, the state after is the one that reads
-  pub moved_moments : {w1 w2 : List ℕ} {mid told : Option History} {before after : FreePages} → Grown w0 w1 (growth_wants (inode (view w0) i) p) before after → IsReady w2
-      → LeavesOnly mid told (HasFewPairs 150) → LeavesOnly mid told (λ image. SettlesTo w1 image ⊎ SettlesTo w2 image) → LeavesOnly mid told (λ image. SameState w0 image ⊎ SameState w2 image)
-  moved_moments {w1} {w2} g ready lawful moments = weaker (λ image. SameState w0 image ⊎ SameState w2 image) (λ image has. elim has.1 [
-    | inl none ↦ inl (state_then (made_state g) (settles_state (made_shut g) (made_whole g) has.0.lawful none))
-    | inr all ↦ inr (settles_state ready.shut (whole_of ready) has.0.lawful all)
-  ]) (both lawful moments)

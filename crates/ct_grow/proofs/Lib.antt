@@ -11,7 +11,6 @@ pub mod Placed
 pub mod Placing
 pub mod Promoting
 pub mod Readied
-pub mod Recorded
 pub mod Spans
 pub mod Spared
 pub mod Stored

@@ -17,9 +17,6 @@ part_high p part =
     let b = partition_bounds p.level (number_of p) (part_partition p part) in
     omega (arith, b.1, base-is p part)
 
-pow8_le : (l m : ℕ) → l ≤ m → 8 ^ l ≤ 8 ^ m
-pow8_le l m le = pow-le-pow_right {n = 8} (omega arith) le
-
 aligned_once : (l x : ℕ) → x % (4096 * 8 ^ suc l) ≡ 0 → x % (4096 * 8 ^ l) ≡ 0
 aligned_once l x whole =
     let w = 4096 * 8 ^ l in

@@ -1,24 +1,17 @@
 -- Words that lie on no page from root slot 10 on.
-use Rattle.std.proofs.Common.{◌≡◌, ◌≢◌, ℕ, ◌+◌, ◌-◌, ◌/◌, ◌%◌, ◌^◌, ◌<◌, List, [], ◌∷◌, ◌++◌, subst, ◌∙◌, ◌⊎◌, inl, inr, arith}
+use Rattle.std.proofs.Common.{◌≡◌, ◌≢◌, ℕ, ◌+◌, ◌-◌, ◌/◌, ◌%◌, ◌^◌, ◌<◌, List, [], ◌∷◌, ◌++◌, ◌∙◌, ◌⊎◌, inl, inr, arith}
 use Rattle.std.specs.Prelude.{All}
 use Rattle.std.proofs.lemmas.List.Elements.{All-head, All-tail}
 use Rattle.ct_base.specs.declared.inode.Inode.{Inode}
 use Rattle.ct_base.specs.Exchange.{HasTables}
 use Rattle.ct_base.specs.Inode.{Partition, part}
-use Rattle.ct_base.specs.Settled.{Pair, Named, Gives}
+use Rattle.ct_base.specs.Settled.{Pair, Named}
 use Rattle.ct_base.specs.Walk.{page_at, AreTables}
 use Rattle.ct_image.proofs.Beside.{Beside, beside_cells}
-use Rattle.ct_image.proofs.Steps.{page_at-low}
-use Rattle.ct_record.specs.Record.{InRecord}
 use Rattle.ct_swap.specs.Swap.{IsEntry, swap_pairs, first_pair, second_pair}
 use Rattle.ct_grow.specs.Drafted.{IsWritten, NamesPlace, NamePlaces, CanMove}
 use Rattle.ct_grow.specs.Moments.{IsSpare}
 use Rattle.ct_grow.proofs.Heads.{path_bounds}
-
-pub record_spare : (img : List ℕ) (w : ℕ) → InRecord w → IsSpare img w
-record_spare img w inside q high is =
-    let there : page_at img 4 q ≢ 0 = λ z. omega (arith, inside.0, is, z) in
-    omega (arith, inside.1, is, page_at-low img 4 q there)
 
 -- an entry of a table
 pub entry_spare : (img : List ℕ) (w : ℕ) → AreTables img → IsEntry img w → IsSpare img w
@@ -68,14 +61,6 @@ swaps_spare img a b ps tables there w named = entry_spare img w tables (swap_ent
 
 pub names_spare : {img : List ℕ} {On : ℕ → Type 0} {pairs : List Pair} → AreTables img → NamePlaces img On pairs → ((a : ℕ) → On a → a < 2 ^ 40) → (w : ℕ) → Named pairs w → IsSpare img w
 names_spare tables names low w named = place_spare w tables (names.each w named) low
-
-pub append_spare : (img : List ℕ) (ps qs rs : List Pair) → rs ≡ ps ++ qs → ((w : ℕ) → Named ps w → IsSpare img w) → ((w : ℕ) → Named qs w → IsSpare img w) → (w : ℕ) → Named rs w → IsSpare img w
-append_spare img ps qs rs is one two w named = elim (named_append ps qs w (subst (λ (l : List Pair). Named l w) is named)) [ inl first ↦ one w first | inr second ↦ two w second ]
-
-pub gives_named : (pairs : List Pair) (w value : ℕ) → Gives pairs w value → Named pairs w
-gives_named [] w value gives = absurd gives
-gives_named (p ∷ ps) w value (inl here) = inl here.0
-gives_named (p ∷ ps) w value (inr later) = inr (gives_named ps w value later)
 
 -- the same where words of the record differ
 pub spare_back : {img now : List ℕ} → Beside img now → (w : ℕ) → IsSpare now w → IsSpare img w

@@ -1,11 +1,11 @@
 -- What a crash may leave while an object grows, as the functions have it.
-use Rattle.std.proofs.Common.{◌≡◌, ◌⊎◌, inl, ℕ, List, sym, ap, subst, ◌∙◌}
+use Rattle.std.proofs.Common.{◌≡◌, ◌⊎◌, inl, inr, ℕ, List, sym, ap, subst, ◌∙◌, arith}
 use Rattle.std.specs.Prelude.{Option}
 use Rattle.ct_base.specs.declared.inode.Inode.{Inode}
 use Rattle.ct_base.specs.Inode.{inode, Partition, IsPart}
 use Rattle.ct_base.specs.Plan.{growth_wants, next_part}
-use Rattle.ct_base.specs.Settled.{HasFewPairs, IsShut}
-use Rattle.ct_base.specs.Spares.{SparesFiles, SparesReplay}
+use Rattle.ct_base.specs.Settled.{IsShut}
+use Rattle.ct_base.specs.Spares.{SparesFiles}
 use Rattle.ct_base.specs.State.{SameState}
 use Rattle.ct_base.specs.View.{view, inode_count}
 use Rattle.ct_base.specs.Wants.{Want}
@@ -14,18 +14,21 @@ use Rattle.ct_frames.specs.Free.{FreePages}
 use Rattle.ct_pm.specs.Images.{History}
 use Rattle.ct_pm.specs.Device.{LeavesOnly, MakesOnly, NothingPending, StoresOver}
 use Rattle.ct_pm.specs.Phase.{Crash, Phase}
-use Rattle.ct_pm.proofs.Phases.{phase_then}
+use Rattle.ct_pm.proofs.Phases.{phase_then, phase_weaker}
 use Rattle.ct_pm.proofs.Told.{and_then, weaker}
-use Rattle.ct_record.specs.Record.{SettlesTo}
 use Rattle.ct_walk.specs.Growth.{Extends, Grown, MayGrow}
+use Rattle.ct_commit.specs.Closed.{IsStateOr}
+use Rattle.ct_commit.specs.Made.{Spares}
+use Rattle.ct_commit.proofs.Pages.{file_page, spare_off}
+use Rattle.ct_state.proofs.States.{state_then}
 use Rattle.ct_grow.specs.Drafted.{Moves}
-use Rattle.ct_grow.specs.Grown.{IsReady, Promoted}
-use Rattle.ct_grow.specs.Moments.{IsBeforeOrAfter, IsSpare, SettlesMoved}
-use Rattle.ct_grow.proofs.Carried.{made_state, making_image, making_moments, moving_image, moving_moments, moved_moments}
-use Rattle.ct_grow.proofs.Moved.{Grew}
+use Rattle.ct_grow.specs.Grown.{IsReady}
+use Rattle.ct_grow.specs.Moments.{HasGrown, IsBeforeOrAfter, IsSpare}
+use Rattle.ct_grow.proofs.Carried.{Making, made_state, making_image, making_moments, ready_closed}
+use Rattle.ct_grow.proofs.Moved.{Grew, page_now}
 use Rattle.ct_grow.proofs.Promoting.{promoted, ready_now}
 use Rattle.ct_grow.proofs.Readied.{Calls, grew, made}
-use Rattle.ct_grow.proofs.Stored.{making_stores, moving_replays, moving_stores}
+use Rattle.ct_grow.proofs.Stored.{made_closed, making_stores, partner_high}
 
 module _ (w0 : List ℕ) (i level : ℕ) (f : Inode) (wants : List Want) (p : Partition) (ready : IsReady w0) (part : IsPart p) (next : next_part (view w0) (inode_count w0) level ≡ p) (was : f ≡ inode (view w0) i) (asked : wants ≡ growth_wants f p) where
   grown_images : {start told : Option History} {before after : FreePages} → LeavesOnly start told (λ image. Grown w0 image wants before after) → LeavesOnly start told (λ image. Grown w0 image (growth_wants (inode (view w0) i) p) before after)
@@ -58,41 +61,39 @@ module _ (w0 : List ℕ) (i level : ℕ) (f : Inode) (wants : List Want) (p : Pa
   asked_phase agrees settled e = record { moments = asked_moments (e.images settled); stores = asked_stores agrees (e.images settled) e.made; reads = asked_reads e.grown }
 
 module _ {w0 w1 : List ℕ} {before after : FreePages} {i level : ℕ} {f : Inode} {wants : List Want} {p : Partition} (c : Calls w0 w1 before after i level f wants p) where
-  grows_to : (w2 : List ℕ) → Moves w1 w2 i (inode (view w0) i) p → IsShut w2 → Promoted w0 w2 i p × IsReady w2
-  grows_to w2 m shut =
-      let s = grew c (subst (λ (g : Inode). Moves w1 w2 i g p) (sym c.was) m) in
-      (promoted s, ready_now s shut)
-
-  grows_now : (w2 : List ℕ) → Moves w1 w2 i (inode (view w0) i) p → IsShut w2 → Grew w0 w1 w2 before after i p × IsReady w2
-  grows_now w2 m shut =
-      let s = grew c (subst (λ (g : Inode). Moves w1 w2 i g p) (sym c.was) m) in
+  grows : (w2 : List ℕ) → Moves w1 w2 i f p → IsShut w2 → Grew w0 w1 w2 before after i p × IsReady w2
+  grows w2 m shut =
+      let s = grew c m in
       (s, ready_now s shut)
 
-  spares_now : (image : List ℕ) → SettlesMoved w1 i (inode (view w0) i) p image → SparesReplay image
-  spares_now = moving_replays (record { ready = c.can.ready; part = c.is_part }) (made c).grown grows_now
+  making : Making w0 i p
+  making = record { ready = c.can.ready; part = c.is_part }
 
-  moved_on : {mid told : Option History} → LeavesOnly mid told (SettlesMoved w1 i f p) → LeavesOnly mid told (Crash (IsBeforeOrAfter w0 i (next_part (view w0) (inode_count w0) level)) 150)
-  moved_on {mid} {told} moments =
-      subst (λ (q : Partition). LeavesOnly mid told (Crash (IsBeforeOrAfter w0 i q) 150)) (sym c.first)
-      (moving_moments (record { ready = c.can.ready; part = c.is_part }) (made c).grown grows_to spares_now (subst (λ (g : Inode). LeavesOnly mid told (SettlesMoved w1 i g p)) c.was moments))
+  -- no word that the move may name lies on a page of a live file
+  pub moving_spares : Spares w1 (λ w2. Moves w1 w2 i f p) (IsSpare w1)
+  moving_spares = record {
+    before = made_closed making (made c).grown;
+    after = λ w2 m shut. ready_closed (grows w2 m shut).1;
+    off = λ w spare is. spare_off 10 w (omega arith) (made_closed making (made c).grown) spare is;
+    off_after = λ w2 m shut w spare is.
+        let both = grows w2 m shut in
+        let at = file_page (ready_closed both.1) is in
+        spare _ (partner_high both.0 at.number at.high) (sym (page_now both.0 at.number) ∙ at.is);
+  }
 
-  moved_reads : (image : List ℕ) → SettlesMoved w1 i f p image → Crash (IsBeforeOrAfter w0 i (next_part (view w0) (inode_count w0) level)) 150 image
-  moved_reads image has =
-      let here = subst (λ (g : Inode). SettlesMoved w1 i g p image) c.was has in
-      subst (λ (q : Partition). Crash (IsBeforeOrAfter w0 i q) 150 image) (sym c.first)
-      (moving_image (record { ready = c.can.ready; part = c.is_part }) (made c).grown grows_to image here (spares_now image here))
-
-  pub moved_last : {w2 : List ℕ} {start mid told : Option History} → IsReady w2 → LeavesOnly start mid (λ image. Grown w0 image wants before after) → LeavesOnly mid told (SettlesMoved w1 i f p)
-      → LeavesOnly mid told (λ image. SettlesTo w1 image ⊎ SettlesTo w2 image) → LeavesOnly start told (λ image. SameState w0 image ⊎ SameState w2 image)
-  moved_last {w2} ready moments moves last =
-      and_then (weaker (λ image. SameState w0 image ⊎ SameState w2 image) (λ image same. inl same) (asked_states w0 i level f wants p c.can.ready c.is_part c.first c.was c.asked moments))
-      (moved_moments (record { ready = c.can.ready; part = c.is_part }) (made c).grown ready (weaker (HasFewPairs 150) (λ image has. has.few) moves) last)
-
-  moved_stores : {mid told : Option History} → LeavesOnly mid told (SettlesMoved w1 i f p) → MakesOnly (λ word value. IsSpare w1 word) mid told → StoresOver SparesFiles mid told
-  moved_stores {mid} {told} moments stores =
-      moving_stores (record { ready = c.can.ready; part = c.is_part }) (made c).grown grows_now (subst (λ (g : Inode). LeavesOnly mid told (SettlesMoved w1 i g p)) c.was moments) stores
+  moved_to : (image : List ℕ) → IsStateOr w1 (λ w2. Moves w1 w2 i f p) image → IsBeforeOrAfter w0 i (next_part (view w0) (inode_count w0) level) image
+  moved_to image (inl none) = inl (state_then (made_state making (made c).grown) none)
+  moved_to image (inr all) =
+      let both = grows all.after all.done all.shut in
+      inr (subst (λ (q : Partition). HasGrown w0 i q image) (sym c.first) (record { after = all.after; promoted = promoted both.0; ready = both.1; state = all.state }))
 
   -- and then while the object moves
-  pub moved_phase : {now : List ℕ} {start mid told : Option History} → Phase (IsBeforeOrAfter w0 i (next_part (view w0) (inode_count w0) level)) 150 start mid w1 → LeavesOnly mid told (SettlesMoved w1 i f p)
-      → SettlesMoved w1 i f p now → MakesOnly (λ word value. IsSpare w1 word) mid told → Phase (IsBeforeOrAfter w0 i (next_part (view w0) (inode_count w0) level)) 150 start told now
-  moved_phase {now = now} made moments reads stores = phase_then made (record { moments = moved_on moments; stores = moved_stores moments stores; reads = moved_reads now reads })
+  pub moved_phase : {now : List ℕ} {start mid told : Option History} → Phase (IsBeforeOrAfter w0 i (next_part (view w0) (inode_count w0) level)) 150 start mid w1 → Phase (IsStateOr w1 (λ w2. Moves w1 w2 i f p)) 150 mid told now
+      → Phase (IsBeforeOrAfter w0 i (next_part (view w0) (inode_count w0) level)) 150 start told now
+  moved_phase made moves = phase_then made (phase_weaker (IsBeforeOrAfter w0 i (next_part (view w0) (inode_count w0) level)) moved_to (omega arith) moves)
+
+  pub moved_last : {w2 : List ℕ} {start mid told : Option History} → LeavesOnly start mid (λ image. Grown w0 image wants before after) → LeavesOnly mid told (λ image. SameState w1 image ⊎ SameState w2 image)
+      → LeavesOnly start told (λ image. SameState w0 image ⊎ SameState w2 image)
+  moved_last {w2} moments last =
+      and_then (weaker (λ image. SameState w0 image ⊎ SameState w2 image) (λ image same. inl same) (asked_states w0 i level f wants p c.can.ready c.is_part c.first c.was c.asked moments))
+      (weaker (λ image. SameState w0 image ⊎ SameState w2 image) (λ image either. elim either [ inl none ↦ inl (state_then (made_state making (made c).grown) none) | inr all ↦ inr all ]) last)

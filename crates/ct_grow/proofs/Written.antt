@@ -1,5 +1,5 @@
 -- The wants of a write after growth.
-use Rattle.std.proofs.Common.{◌≡◌, ◌≢◌, ℕ, zero, suc, ◌+◌, ◌*◌, ◌/◌, ◌^◌, ◌≤◌, List, [], ◌∷◌, ◌++◌, refl, sym, ap, subst, inl, inr, arith}
+use Rattle.std.proofs.Common.{◌≡◌, ◌≢◌, ℕ, zero, suc, ◌+◌, ◌*◌, ◌/◌, ◌^◌, ◌≤◌, List, [], ◌∷◌, ◌++◌, refl, sym, subst, inl, inr, arith}
 use Rattle.std.specs.Prelude.{All}
 use Rattle.std.proofs.Math.Nat.{div-add-mod, pow-le-pow_right}
 use Rattle.std.proofs.lemmas.Bool.{cases_lt, cond-true, cond-false, lt-ltb, le-ltb}
@@ -11,17 +11,11 @@ use Rattle.ct_base.specs.Plan.{growth_wants, side_wants, stage, table_want, touc
 use Rattle.ct_base.specs.Wants.{Want, missing}
 use Rattle.ct_grow.specs.Follows.{Enlarges, IsWhole, Follows, IsElsewhere, write_asks}
 use Rattle.ct_grow.specs.Grown.{CellsMoved}
-use Rattle.ct_grow.proofs.Accounted.{counted_here, missing_plan, whole_low, whole_new, whole_one}
+use Rattle.ct_grow.proofs.Accounted.{missing_plan, whole_low, whole_new, whole_one}
 
 -- a want of one address in a partition that meets neither the old one nor the new one
 pub whole_apart : (f : Inode) (p q : Partition) (want : Want) → want.len ≡ 1 → AreApart q (part f) → IsIn q want.at → IsWhole f p want
 whole_apart f p q want one apart inside = whole_one f p want one (elim apart [ inl before ↦ inl (omega (arith, before, inside.to)) | inr after ↦ inr (omega (arith, after, inside.from)) ])
-
-pub elsewhere_apart : {f : Inode} {p : Partition} → (f.level ≢ 15 → Enlarges f p) → (q : Partition) (want : Want) → AreApart q p → IsIn q want.at → IsElsewhere f p want
-elsewhere_apart {f} {p} e q want apart inside = λ has.
-    (let less = (e has).smaller in
-    let shorter = pow-le-pow_right {n = 8} (omega arith) {i = f.level} {j = p.level} (omega (arith, less)) in
-    elim apart [ inl before ↦ inl (omega (arith, before, inside.to)) | inr after ↦ inr (omega (arith, after, inside.from, shorter)) ])
 
 -- the tables of pieces in the new partition
 pub side_follows : {f : Inode} {p : Partition} → (f.level ≢ 15 → Enlarges f p) → (a b n : ℕ) → p.base ≤ a * 4096 → (a + n) * 4096 ≤ part_end p → (steps i : ℕ) → All (Follows f p) (side_wants a (pieces_from steps a b n i))
@@ -59,8 +53,3 @@ module _ {f : Inode} {p : Partition} (e : f.level ≢ 15 → Enlarges f p) (new_
   -- What is missing for a write after growth, and what growth took, is what its plan counted.
   pub missing_write : {old new : List ℕ} → CellsMoved old new f p → missing new (write_asks p off len) + missing old (growth_wants f p) ≡ missing old (growth_wants f p ++ write_wants f off len p)
   missing_write moved = missing_plan moved e side (staged ∷ []) write_follows (All-cons (IsElsewhere f p) staged [] (λ has. inl (omega (arith, new_part.low))) (All-nil (IsElsewhere f p)))
-
--- and where the object stays its plan counts what it asks for
-pub write_here : (f : Inode) (off len : ℕ) → write_wants f off len (part f) ≡ write_asks (part f) off len
-write_here f off len = ap (λ ws. ws ++ record { height = 0; at = stage (f.base + off) / 4096 * 4096; len = touched off len * 4096 } ∷ [])
-    (counted_here f (side_wants ((f.base + off) / 4096) (pieces ((f.base + off) / 4096) (stage (f.base + off) / 4096) (touched off len))))

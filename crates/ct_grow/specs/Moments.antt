@@ -1,33 +1,14 @@
 -- What a crash may leave while an object grows.
 use Rattle.std.specs.Prelude.{◌≢◌, ℕ, ◌*◌, ◌/◌, ◌≤◌, ◌⊎◌, List}
-use Rattle.ct_base.specs.declared.inode.Inode.{Inode}
 use Rattle.ct_base.specs.declared.layout.TheConstants.{PAGE_WORDS, PARTITION_SLOT, SLOT_PAGES}
 use Rattle.ct_base.specs.Inode.{Partition}
-use Rattle.ct_base.specs.Settled.{HasFewPairs, IsShut, Named, open_pairs}
 use Rattle.ct_base.specs.State.{SameState}
 use Rattle.ct_base.specs.Walk.{page_at}
-use Rattle.ct_base.specs.declared.limits.TheConstants.{MOST_GROWTH_PAIRS}
-use Rattle.ct_record.specs.Record.{SettlesTo}
-use Rattle.ct_grow.specs.Drafted.{Moves}
 use Rattle.ct_grow.specs.Grown.{IsReady, Promoted}
-
--- the image settles to words in which the object has moved
-pub record AfterMove (words : List ℕ) (i : ℕ) (f : Inode) (p : Partition) (image : List ℕ) : Type 0 where
-  pub after : List ℕ
-  pub moves : Moves words after i f p
-  pub shut : IsShut after
-  pub settles : SettlesTo after image
 
 -- the device word lies on no page from root slot 10 on
 abbrev pub IsSpare : List ℕ → ℕ → Type 0
 IsSpare img w = (q : ℕ) → PARTITION_SLOT * SLOT_PAGES ≤ q → page_at img 4 q ≢ w / PAGE_WORDS
-
--- the record is lawful and short, names no word of a page from root slot 10 on, and the image settles to the words before the move
--- or after it
-pub record SettlesMoved (words : List ℕ) (i : ℕ) (f : Inode) (p : Partition) (image : List ℕ) : Type 0 where
-  pub few : HasFewPairs MOST_GROWTH_PAIRS image
-  pub names : (w : ℕ) → Named (open_pairs image) w → IsSpare words w
-  pub to : SettlesTo words image ⊎ AfterMove words i f p image
 
 -- the image settles to a state in which the object has grown
 pub record HasGrown (words : List ℕ) (i : ℕ) (p : Partition) (image : List ℕ) : Type 0 where

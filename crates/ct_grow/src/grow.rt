@@ -7,13 +7,14 @@ ghost use Rattle.ct_base.specs.Settled.{IsShut};
 ghost use Rattle.ct_base.specs.View.{view, inode_count};
 ghost use Rattle.ct_base.specs.Walk.{AreTables};
 ghost use Rattle.ct_frames.specs.Agrees.{Agrees};
-ghost use Rattle.ct_pm.specs.Device.{LeavesOnly, MakesOnly, NothingPending};
+ghost use Rattle.ct_pm.specs.Device.{LeavesOnly, NothingPending};
 ghost use Rattle.ct_pm.specs.Phase.{Phase};
 ghost use Rattle.ct_grow.specs.Drafted.{CanMove, Moves};
 ghost use Rattle.ct_base.specs.State.{SameState};
-ghost use Rattle.ct_record.specs.Record.{SettlesTo};
+ghost use Rattle.ct_commit.specs.Closed.{IsStateOr};
+ghost use Rattle.ct_commit.specs.Made.{Spares};
 ghost use Rattle.ct_record.specs.Seen.{device_behind};
-ghost use Rattle.ct_grow.specs.Moments.{IsBeforeOrAfter, IsSpare, SettlesMoved};
+ghost use Rattle.ct_grow.specs.Moments.{IsBeforeOrAfter, IsSpare};
 ghost use Rattle.ct_grow.specs.Grown.{CanGrow, CellsMoved, IsReady, Promoted};
 
 use crate::draft::move_object;
@@ -32,16 +33,15 @@ fn move_now<D: Pm>(dev: D, number: u64, old: Inode, level: u32, base: Vaddr) -> 
     requires shut { IsShut (D.words dev) }
     requires settled { NothingPending (D.told dev) }
     requires can { CanMove (D.words dev) number old (record { base = base; level = level }) }
+    requires spares { Spares (D.words dev) (λ new. Moves (D.words dev) new number old (record { base = base; level = level })) (IsSpare (D.words dev)) }
     ensures moves { OnOk result (Moves (D.words dev) (D.words (device_behind result)) number old (record { base = base; level = level })) }
     ensures shut { OnOk result (IsShut (D.words (device_behind result))) }
     ensures settled { OnOk result (NothingPending (D.told (device_behind result))) }
 
-    // A crash at any moment leaves a lawful record of at most 150 pairs, and settles to the words before the move or after it.
-    ensures any_moment { LeavesOnly (D.told dev) (D.told (device_behind result)) (SettlesMoved (D.words dev) number old (record { base = base; level = level })) }
-    ensures reads { SettlesMoved (D.words dev) number old (record { base = base; level = level }) (D.words (device_behind result)) }
+    // A crash at any moment settles to the state before the move or after it; and once it is done, to that of the words as they read.
+    ensures phase { Phase (IsStateOr (D.words dev) (λ new. Moves (D.words dev) new number old (record { base = base; level = level }))) MOST_GROWTH_PAIRS (D.told dev) (D.told (device_behind result)) (D.words (device_behind result)) }
     ensures reads_after { OnOk result (LeavesOnly (D.told dev) (D.told (device_behind result))
-        (λ image. SettlesTo (D.words dev) image ⊎ SettlesTo (D.words (device_behind result)) image)) }
-    ensures made { MakesOnly (λ word value. IsSpare (D.words dev) word) (D.told dev) (D.told (device_behind result)) }
+        (λ image. SameState (D.words dev) image ⊎ SameState (D.words (device_behind result)) image)) }
     ensures cause { HasCause (D.faults dev) (D.faults (device_behind result)) result }
 {
     let mut draft = Draft::begin(Idle::of(dev));

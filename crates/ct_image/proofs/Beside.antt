@@ -1,5 +1,5 @@
 -- Words that no table or page of an address holds change: those of pages 1 to 32, where the record stands.
-use Rattle.std.proofs.Common.{◌≡◌, ◌≢◌, ℕ, zero, suc, ◌+◌, ◌*◌, ◌/◌, ◌%◌, ◌<◌, ◌≤◌, List, length, refl, sym, ap, ◌∙◌, arith}
+use Rattle.std.proofs.Common.{◌≡◌, ◌≢◌, ℕ, zero, suc, ◌+◌, ◌*◌, ◌/◌, ◌%◌, ◌<◌, ◌≤◌, List, length, sym, ap, ◌∙◌, arith}
 use Rattle.ct_base.specs.Walk.{word, word_in, page_count, next, page_at, AreTables}
 use Rattle.ct_base.specs.Words.{word_at}
 use Rattle.ct_image.proofs.Steps.{next-same, page_at-same_root, page_at-next, page_at-low}
@@ -10,9 +10,6 @@ pub record Beside (old new : List ℕ) : Type 0 where
   pub size : length new ≡ length old
   pub front : (w : ℕ) → w < 512 → word new w ≡ word old w
   pub back : (w : ℕ) → 16896 ≤ w → word new w ≡ word old w
-
-pub beside_here : (img : List ℕ) → Beside img img
-beside_here img = record { size = refl; front = λ w lt. refl; back = λ w le. refl }
 
 module _ {old new : List ℕ} (b : Beside old new) where
   pub beside_count : page_count new ≡ page_count old

@@ -2,7 +2,6 @@ pub mod Below
 pub mod Beside
 pub mod Cut
 pub mod Exchanging
-pub mod Keeps
 pub mod Link
 pub mod MissingLess
 pub mod MissingSum

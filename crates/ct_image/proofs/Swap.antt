@@ -3,8 +3,8 @@ use Rattle.std.proofs.Common.{◌==◌, if◌then◌else◌, length, ◌≡◌, 
 use Rattle.std.proofs.Math.Nat.{pow-suc, pow-succ', one-le-pow, div-div-eq-div-mul}
 use Rattle.std.proofs.Math.Arith.{mod-mul}
 use Rattle.std.proofs.lemmas.Bool.{cases_eq, eq-eqb, ne_eqb}
-use Rattle.ct_base.specs.Walk.{word, page_count, named_page, next, page_at, byte_in, byte, IsFresh, ReachesOnce, AreTables}
-use Rattle.ct_image.proofs.Steps.{next-at, next-same, page_at-same_root, page_at-next, page_at-entry, page_at-low, byte_in-same, walk-cell}
+use Rattle.ct_base.specs.Walk.{word, page_count, named_page, next, page_at, IsFresh, ReachesOnce, AreTables}
+use Rattle.ct_image.proofs.Steps.{next-at, next-same, page_at-same_root, page_at-next, page_at-entry, page_at-low}
 
 -- swaps two numbers
 abbrev pub swapped : ℕ → ℕ → ℕ → ℕ
@@ -215,14 +215,3 @@ module _ {old new : List ℕ} {d x i z j : ℕ} (s : Swaps old new d x i z j) wh
   pub tables_new : AreTables new
   tables_new =
       record { some = omega (arith, same_count s, s.tables.some); there = omega (arith, same_count s, s.size, s.tables.there); entries = entries_new; once = once_new }
-
-  -- each byte is that of the page which the walk reached at the partner
-  pub byte_moves : (v : ℕ) → v < 2 ^ 48 → byte new v ≡ byte_in old (page_at old 4 (moved d (x * 512 + i) (z * 512 + j) 4 (v / 4096))) (v % 4096)
-  byte_moves v lt =
-      let n = v / 4096 in
-      let o = v % 4096 in
-      let m = moved d (x * 512 + i) (z * 512 + j) 4 n in
-      ap (λ t. byte_in new t o) (walk-cell new v lt ∙ swap_at s 4 n (omega arith))
-      ∙ byte_in-same old new (page_at old 4 m) o (λ ne. s.others _
-      (λ here. omega (arith, s.depth, (s.tables.once 4 m d x (omega arith) (omega (arith, s.depth)) ne (omega (arith, s.index_i, here))).0))
-      (λ here. omega (arith, s.depth, (s.tables.once 4 m d z (omega arith) (omega (arith, s.depth)) ne (omega (arith, s.index_j, here))).0)))

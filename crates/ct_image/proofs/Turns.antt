@@ -97,10 +97,6 @@ partner_turns a b m n apart first second = record {
       | inr past ↦ let e = partner-other a b m x (record { first = out; second = λ le. past }) in omega (arith, e)
     ]
 
--- as many numbers pass when two such ranges change places
-pub count_below-exchanged : (a b m n : ℕ) (q : ℕ → Bool) → Apart a b m → a + m ≤ n → b + m ≤ n → count_below (λ x. q (partner a b m x)) n ≡ count_below q n
-count_below-exchanged a b m n q apart first second = count_below-turned (partner a b m) q n (partner_turns a b m n apart first second)
-
 -- The numbers that pass r are those that pass p or q, and none passes both.
 pub count_below-parts : (p q r : ℕ → Bool) (n : ℕ) → ((x : ℕ) → r x ≡ (p x || q x)) → ((x : ℕ) → p x ≡ true → q x ≡ false) → count_below p n + count_below q n ≡ count_below r n
 unfolding count_below

@@ -9,3 +9,4 @@ pub mod Bounded
 pub mod Taken
 pub mod Counted
 pub mod Fitting
+pub mod Passing

@@ -10,6 +10,7 @@ pub mod enough;
 mod limits;
 pub mod lines;
 pub mod plans;
+pub mod runs;
 pub mod tails;
 
 pub use limits::CALL_PAGES;

@@ -1,12 +1,11 @@
 -- Bytes that are put into a buffer, part after part.
-use Rattle.std.proofs.Common.{◌≡◌, ◌≢◌, ℕ, zero, suc, ◌+◌, ◌-◌, ◌*◌, ◌/◌, ◌%◌, ◌^◌, ◌<◌, ◌≤◌, List, length, min, get_or, refl, sym, ap, ◌∙◌, inl, inr, arith, rules}
+use Rattle.std.proofs.Common.{◌≡◌, ◌≢◌, ℕ, ◌+◌, ◌-◌, ◌*◌, ◌/◌, ◌%◌, ◌^◌, ◌<◌, ◌≤◌, List, length, min, get_or, refl, sym, ap, ◌∙◌, inl, inr, arith, rules}
 use Rattle.std.specs.Int.{w64, to_le_bytes}
 use Rattle.std.proofs.lemmas.Bool.{cases_lt}
 use Rattle.std.proofs.lemmas.List.{places}
 use borrow.Rule.Slice.PartMut.{put_mid}
-use Rattle.ct_base.specs.Walk.{byte, byte_in, page_at, walk, word}
+use Rattle.ct_base.specs.Walk.{byte, byte_in}
 use Rattle.ct_dir.proofs.Spelling.{le_byte}
-use Rattle.ct_image.proofs.Steps.{walk-cell}
 use Rattle.ct_look.specs.Content.{Fills, byte_of_word}
 
 pub fills_none : (old : List ℕ) (place n : ℕ) (b : ℕ → ℕ) → n ≡ 0 → Fills old old place n b
@@ -29,10 +28,6 @@ fills_then old mid new place next n m all b c one two at sum same = record {
   ];
 }
 
--- the same bytes, told in another way
-pub fills_same : (old new : List ℕ) (place n : ℕ) (b c : ℕ → ℕ) → Fills old new place n b → ((k : ℕ) → k < n → b k ≡ c k) → Fills old new place n c
-fills_same old new place n b c f same = record { size = f.size; here = λ k lt. f.here k lt ∙ same k lt; others = f.others }
-
 -- a part of a buffer was written over
 pub fills_part : (old part : List ℕ) (place n : ℕ) (b : ℕ → ℕ) → place + n ≤ length old → length part ≡ n → ((k : ℕ) → k < n → get_or part k 0 ≡ b k) → Fills old (put_mid place n old part) place n b
 fills_part old part place n b room long bytes = record {
@@ -43,30 +38,6 @@ fills_part old part place n b room long bytes = record {
 
 pub le_bytes : (bytes : List ℕ) (w : ℕ) → bytes ≡ to_le_bytes w64 w → (k : ℕ) → k < 8 → get_or bytes k 0 ≡ byte_of_word w k
 le_bytes bytes w is k lt = ap (λ bs. get_or bs k 0) is ∙ le_byte w k lt
-
-byte_there : (img : List ℕ) (page o : ℕ) → page ≢ 0 → byte_in img page o ≡ byte_of_word (word img (page * 512 + o / 8)) (o % 8)
-byte_there img zero o ne = absurd (ne refl)
-byte_there img (suc page) o ne = refl
-
--- the bytes of a word of a page
-pub word_bytes : (img : List ℕ) (page first i w : ℕ) → page ≢ 0 → w ≡ word img (page * 512 + first + i) → (k : ℕ) → k < 8 → byte_of_word w k ≡ byte_in img page (8 * first + (8 * i + k))
-word_bytes img page first i w used is k lt =
-    let at : page * 512 + (8 * first + (8 * i + k)) / 8 ≡ page * 512 + first + i = omega (arith, lt) in
-    let low : (8 * first + (8 * i + k)) % 8 ≡ k = omega (arith, lt) in
-    ap (λ v. byte_of_word v k) (is ∙ ap (word img) (sym at)) ∙ ap (byte_of_word (word img (page * 512 + (8 * first + (8 * i + k)) / 8))) (sym low) ∙ sym (byte_there img page (8 * first + (8 * i + k)) used)
-
--- one word more
-pub fills_word : (img old mid part : List ℕ) (page first place i w : ℕ) → page ≢ 0 → Fills old mid place (8 * i) (λ k. byte_in img page (8 * first + k)) → Fills mid part (place + 8 * i) 8 (byte_of_word w) → w ≡ word img (page * 512 + first + i)
-    → Fills old part place (8 * (i + 1)) (λ k. byte_in img page (8 * first + k))
-fills_word img old mid part page first place i w used had more is =
-    fills_then old mid part place (place + 8 * i) (8 * i) 8 (8 * (i + 1)) (λ k. byte_in img page (8 * first + k)) (byte_of_word w) had more refl (omega arith) (word_bytes img page first i w used is)
-
--- the addresses of one page
-pub byte_page : (img : List ℕ) (v k : ℕ) → v + k < 2 ^ 48 → v % 4096 + k < 4096 → byte img (v + k) ≡ byte_in img (walk img v) (v % 4096 + k)
-byte_page img v k high inside =
-    let page : (v + k) / 4096 ≡ v / 4096 = omega (arith, inside) in
-    let offset : (v + k) % 4096 ≡ v % 4096 + k = omega (arith, inside) in
-    ap (λ p. byte_in img p ((v + k) % 4096)) (walk-cell img (v + k) high ∙ ap (page_at img 4) page ∙ sym (walk-cell img v (omega (arith, high)))) ∙ ap (byte_in img (walk img v)) offset
 
 -- bytes before whole words, the words, and bytes behind them
 pub fills_run : (img old m n new : List ℕ) (page from place count head words tail : ℕ) → head ≡ min count ((8 - from % 8) % 8) → words ≡ (count - head) / 8 → tail ≡ (count - head) % 8

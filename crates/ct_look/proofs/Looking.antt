@@ -21,7 +21,7 @@ use Rattle.ct_tree.specs.declared.call.Refusal.TheVariants.{IsDir as is_dir, Not
 use Rattle.ct_look.proofs.Listed.{slots_counted, slot_next, no_slot_next}
 use Rattle.ct_call.specs.Calls.{StandsFor}
 use Rattle.ct_look.specs.Looks.{IsFound, IsPlaceAt, next_name, stat_answer}
-use Rattle.ct_call.specs.Mounted.{IsAtRest}
+use Rattle.ct_commit.specs.Rest.{IsAtRest}
 use Rattle.ct_look.specs.declared.seen.Stat.TheVariants.{File as a_file, Dir as a_dir}
 
 -- the check of the node to which a path leads

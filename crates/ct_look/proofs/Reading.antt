@@ -12,7 +12,7 @@ use Rattle.ct_base.specs.View.{view}
 use Rattle.ct_base.specs.Walk.{byte}
 use Rattle.ct_call.proofs.Enlarged.{part_high}
 use Rattle.ct_call.specs.Calls.{StandsFor}
-use Rattle.ct_call.specs.Mounted.{IsAtRest}
+use Rattle.ct_commit.specs.Rest.{IsAtRest}
 use Rattle.ct_state.proofs.Carry.{view-seen}
 use Rattle.ct_state.proofs.Whole.{seen_from}
 use Rattle.ct_tree.specs.Checks.{above, at, bad_path, first_of, no_file}

@@ -1,15 +1,14 @@
 -- Holes are stepped over, and what is read in them is 0.
-use Rattle.std.proofs.Common.{◌≡◌, ◌≢◌, ℕ, ◌+◌, ◌-◌, ◌*◌, ◌/◌, ◌%◌, ◌<◌, ◌≤◌, List, Ok, Option, Some, None, length, refl, sym, ap, ◌∙◌, subst, inl, inr, arith}
+use Rattle.std.proofs.Common.{◌≡◌, ◌≢◌, ℕ, ◌+◌, ◌-◌, ◌*◌, ◌/◌, ◌%◌, ◌<◌, ◌≤◌, List, Ok, Option, Some, None, length, refl, sym, ap, ◌∙◌, subst, arith}
 use Rattle.std.specs.Prelude.{slice_index}
-use Rattle.std.proofs.lemmas.Bool.{cases_lt}
 use Rattle.ct_base.specs.declared.inode.Inode.{Inode}
 use Rattle.ct_base.specs.Inode.{inode}
 use Rattle.ct_base.specs.Objects.{Object}
 use Rattle.ct_base.specs.View.{view}
 use Rattle.ct_base.specs.Walk.{byte, byte_in, index, next, walk}
-use Rattle.ct_call.proofs.FilePages.{base_whole}
+use Rattle.ct_commit.proofs.Pages.{base_whole}
 use Rattle.ct_call.specs.Calls.{StandsFor}
-use Rattle.ct_call.specs.Mounted.{IsAtRest}
+use Rattle.ct_commit.specs.Rest.{IsAtRest}
 use Rattle.ct_image.proofs.Steps.{next-zero}
 use Rattle.ct_walk.proofs.Entries.{some_page-is, some_page-none}
 use Rattle.ct_walk.specs.Pages.{some_page}
@@ -81,10 +80,6 @@ module _ (img : List ℕ) (a : ℕ) where
             let there = some_page-is page (next img first (a / 4096 % 512)) at_page in
             let is : walk img a ≡ next img first (a / 4096 % 512) = cc (third_is, second_is, first_is) in
             there.1 (sym is ∙ none)
-
--- a hole after others
-pub unmapped_more : (img : List ℕ) (from here to : ℕ) → AreUnmapped img from here → IsHole img here to → AreUnmapped img from to
-unmapped_more img from here to before hole v low high = elim (cases_lt v here) [ inl less ↦ before v low less | inr past ↦ hole.empty v past high ]
 
 -- a byte in a hole is 0
 pub hole_byte : (img : List ℕ) (v : ℕ) → walk img v ≡ 0 → byte img v ≡ 0

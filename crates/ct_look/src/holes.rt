@@ -3,7 +3,7 @@ ghost use Rattle.std.specs.Prelude.{◌≡◌, ◌≢◌, ◌<◌, ◌≤◌, If
 ghost use Rattle.ct_base.specs.Settled.{HasPages};
 ghost use Rattle.ct_base.specs.Walk.{walk};
 ghost use Rattle.ct_call.specs.Calls.{StandsFor};
-ghost use Rattle.ct_call.specs.Mounted.{IsAtRest};
+ghost use Rattle.ct_commit.specs.Rest.{IsAtRest};
 ghost use Rattle.ct_look.specs.Holes.{AreUnmapped, IsHole, IsMappedAt, IsNextData, IsNextMapped};
 ghost use Rattle.ct_look.specs.Looks.{IsLook, answer_of};
 ghost use Rattle.ct_tree.specs.Checks.{at};

@@ -11,7 +11,8 @@ ghost use Rattle.ct_tree.specs.Tree.{Tree};
 ghost use Rattle.ct_call.specs.Calls.{StandsFor};
 ghost use Rattle.ct_look.specs.Content.{IsRead};
 ghost use Rattle.ct_look.specs.Looks.{IsInodeAt, IsLook, IsPlaceAt, answer_of, next_name, stat_answer};
-ghost use Rattle.ct_call.specs.Mounted.{IsAtRest, Volume};
+ghost use Rattle.ct_call.specs.Mounted.{Volume};
+ghost use Rattle.ct_commit.specs.Rest.{IsAtRest};
 
 use crate::content::put_content;
 use crate::seen::Stat;

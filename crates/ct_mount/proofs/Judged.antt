@@ -12,7 +12,8 @@ use Rattle.ct_check.specs.Rules.{HasNoStaging}
 use Rattle.ct_check.proofs.Firsts.{all_hold, body_first, head_first}
 use Rattle.ct_call.specs.Calls.{Holds}
 use Rattle.ct_call.specs.NotMounted.{image_dev}
-use Rattle.ct_call.specs.Mounted.{IsAtRest, Volume}
+use Rattle.ct_call.specs.Mounted.{Volume}
+use Rattle.ct_commit.specs.Rest.{IsAtRest}
 use Rattle.ct_call.specs.declared.mount.NoMount.{NoMount}
 use Rattle.ct_call.specs.declared.mount.Why.{Why}
 use Rattle.ct_call.specs.declared.mount.Why.TheVariants.{Damage, Fault, Memory}
@@ -51,6 +52,7 @@ module _ {was now : List ℕ} {told : Option History} (head : HasHead was) (s : 
   pub holds : IsAtRest now → (t : Tree) → IsTree t → Lands was t → Holds (inode_count was) t now told
   holds rest t tree lands = record {
     rest = rest;
+    unstaged = unstaged;
     stands = record { tree = tree; stands = subst (λ fs. Stands fs 1 t) (sym (files-same (alike_off agree))) lands.stands };
     lasts = s.lasts;
     counted = (alike_off agree).inodes ∙ settled_inodes was head.recorded;

@@ -8,8 +8,9 @@ use Rattle.ct_base.specs.Settled.{HasFewPairs, Named, Pair, open_pairs, settled}
 use Rattle.ct_base.specs.Spares.{SparesFiles, SparesReplay}
 use Rattle.ct_base.specs.State.{SameState}
 use Rattle.ct_base.specs.Walk.{page_count}
-use Rattle.ct_call.specs.Mounted.{IsAtRest}
-use Rattle.ct_call.proofs.FilePages.{file_cell, record_spares, settled_page}
+use Rattle.ct_commit.specs.Rest.{IsAtRest}
+use Rattle.ct_commit.proofs.Pages.{record_off, root_off, settles_page}
+use Rattle.ct_commit.proofs.States.{closed_of}
 use Rattle.ct_image.proofs.Steps.{page_at-root}
 use Rattle.ct_mount.specs.Mounting.{Recovers, SparesBut}
 use Rattle.ct_mount.proofs.Agreeing.{settles_state}
@@ -62,26 +63,20 @@ module _ {was : List ℕ} (head : HasHead was) where
           head = h;
           sound = sound;
           shut = settled_is_shut was;
-          unstaged = settled_unstaged was;
           tables = (whole_of (settled was) (settled_unstaged was) some h.count.1 sound).tables;
         }
 
     -- what lies under a live file of what an image settles to lay under one before
     file_page : (image : List ℕ) {page : ℕ} → SettlesTo was image → IsFilePage (settled image) page → IsFilePage (settled was) page
     file_page image settles is =
-        settled_page {words = settled was} image idle_rest (subst (λ l. SameOff InRecord (settled image) l) (sym (settled_twice was)) settles) is
+        settles_page image (closed_of idle_rest) (subst (λ l. SameOff InRecord (settled image) l) (sym (settled_twice was)) settles) is
 
     -- the root table lies under no file
     root_spares : (word : ℕ) → IsStaging word → IsFilePage (settled was) (word / 512) → ⊥
-    root_spares word staging is =
-        let cell = file_cell (settled was) sound is in
-        let root = page_at-root (settled was) in
-        let here : word / 512 ≡ 33 = omega (arith, staging.0, staging.1) in
-        let once = idle_rest.tables.once 4 (is.address / 4096) 0 0 (omega arith) (omega arith) (λ z. omega (arith, z, cell, here)) (cell ∙ here ∙ sym root) in
-        omega (arith, once.0)
+    root_spares word staging is = root_off word (closed_of idle_rest) (omega (arith, staging.0, staging.1)) is
 
     pub settling_spares : (image : List ℕ) (word value : ℕ) → SettlesTo was image → Settling was word value → SparesBut (open_pairs was) image word value
-    settling_spares image word value settles (inl inside) is = absurd (record_spares word idle_rest inside (file_page image settles is))
+    settling_spares image word value settles (inl inside) is = absurd (record_off word (closed_of idle_rest) inside (file_page image settles is))
     settling_spares image word value settles (inr (inl gives)) is = gives_named (open_pairs was) word value gives
     settling_spares image word value settles (inr (inr staging)) is = absurd (root_spares word staging.0 (file_page image settles is))
 

@@ -13,7 +13,7 @@ ghost use Rattle.ct_tree.specs.Ordered.{IsTree};
 ghost use Rattle.ct_tree.specs.Tree.{Tree};
 ghost use Rattle.ct_call.specs.Calls.{Holds};
 ghost use Rattle.ct_call.specs.NotMounted.{image_dev, why_not};
-ghost use Rattle.ct_call.specs.Mounted.{IsAtRest};
+ghost use Rattle.ct_commit.specs.Rest.{IsAtRest};
 ghost use Rattle.ct_mount.specs.Mounting.{Finds, IsSettledFrom, Judges, Recovers};
 
 use ct_call::{Mounted, NoMount, Why};

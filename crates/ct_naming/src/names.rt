@@ -1,5 +1,5 @@
 // Mount rule 18: two slots of one directory have different names.
-ghost use Rattle.std.specs.Prelude.{◌≡◌, ◌↔◌, ℕ, ◌+◌, ◌<◌, ◌≤◌, IfOk, IsTrue};
+ghost use Rattle.std.specs.Prelude.{◌≡◌, ◌↔◌, ℕ, ◌+◌, ◌<◌, ◌≤◌, length, IfOk, IfSome, IsTrue};
 ghost use Rattle.std.specs.Cmp.Lexicographic.{slice_cmp};
 ghost use Rattle.std.specs.List.Sorted.{IsSortedByKey};
 ghost use Rattle.std.specs.Ordering.{nat_cmp};
@@ -11,28 +11,97 @@ ghost use Rattle.ct_base.specs.View.{inode_count, view};
 ghost use Rattle.ct_base.specs.Walk.{AreTables, page_count};
 ghost use Rattle.ct_dir.specs.Directory.{dir_of};
 ghost use Rattle.ct_naming.specs.Slots.{Stands};
-ghost use Rattle.ct_naming.specs.Spelling.{AreNeighboursApart, AreSpelled, AreSlotsApart, IsSpelled};
+ghost use Rattle.ct_naming.specs.Spelling.{AreNeighboursApart, AreSpelled, AreSlotsApart, IsSpelled, key, name_word, name_words, slot_place};
 
 use crate::slot::{Slot, next_slot};
-use crate::spelled::{SLOT_WORDS, Spelled};
-use ct_base::{DIRECTORY_KIND, ENTRY_BYTES, Inode, MOST_INODES, MOST_PAGES, NoMemory};
+use crate::spelled::Spelled;
+use ct_base::{
+    DIRECTORY_KIND, ENTRY_BYTES, ENTRY_WORDS, Inode, MOST_INODES, MOST_PAGES, NoMemory, PAGE_BYTES,
+    PAGE_WORDS, Vaddr,
+};
 use ct_inode::get;
 use ct_pm::Pm;
+use ct_walk::walk;
 use std::alloc::Global;
+use std::cmp::Ordering;
+
+/// The device word of the slot at an offset of a directory; `None` exactly where its page is absent.
+fn place_of_slot<D: Pm>(dev: &D, dir: Inode, offset: u64) -> Option<u64>
+    requires tables { AreTables (D.words dev.now) }
+    ensures exact { result ≡ slot_place (D.words dev.now) dir offset }
+    ensures inside { IfSome result (λ place. place + ENTRY_WORDS ≤ length (D.words dev.now)) }
+{
+    let v = match Vaddr::new(dir.base.saturating_add(offset)) {
+        Some(v) => v,
+        None => return None,
+    };
+    let page = match walk(dev, v) {
+        Some(page) => page.number(),
+        None => return None,
+    };
+    Some(page * PAGE_WORDS + offset % PAGE_BYTES / ENTRY_BYTES * ENTRY_WORDS)
+}
+
+/// A word of the name in a slot: its length, or one of the words that hold it.
+fn word_of_name<D: Pm>(dev: &D, slot: Option<u64>, k: u64) -> u64
+    requires inside { IfSome slot (λ place. place + ENTRY_WORDS ≤ length (D.words dev.now)) }
+    requires word { k < ENTRY_WORDS }
+    ensures { result ≡ name_word (D.words dev.now) slot k }
+{
+    match slot {
+        None => 0,
+        Some(place) => {
+            let word = dev.load(place + k);
+            if k == 0 { word / (1 << 32) } else { word }
+        }
+    }
+}
+
+/// The order of the names in two slots of a directory, by all their words.
+fn compare_words<D: Pm>(dev: &D, dir: Inode, a: u64, b: u64) -> Ordering
+    requires tables { AreTables (D.words dev.now) }
+    ensures { result ≡ slice_cmp nat_cmp (name_words (D.words dev.now) dir a) (name_words (D.words dev.now) dir b) }
+{
+    let x = place_of_slot(dev, dir, a);
+    let y = place_of_slot(dev, dir, b);
+    for k in 0..ENTRY_WORDS {
+        match word_of_name(dev, x, k).cmp(&word_of_name(dev, y, k)) {
+            Ordering::Equal => {}
+            order => return order,
+        }
+    }
+    Ordering::Equal
+}
+
+/// The order of two names of a directory: the words that are kept decide, and where these are the same, all do.
+fn compare<D: Pm>(dev: &D, dir: Inode, a: &Spelled, b: &Spelled) -> Ordering
+    requires tables { AreTables (D.words dev.now) }
+    ensures { result ≡ slice_cmp nat_cmp (key (D.words dev.now) dir a.now) (key (D.words dev.now) dir b.now) }
+{
+    match a.first.cmp(&b.first) {
+        Ordering::Equal => compare_words(dev, dir, a.offset, b.offset),
+        order => order,
+    }
+}
+
+/// Whether two names of a directory have the same words.
+fn are_alike<D: Pm>(dev: &D, dir: Inode, a: &Spelled, b: &Spelled) -> bool
+    requires tables { AreTables (D.words dev.now) }
+    ensures { IsTrue result ↔ key (D.words dev.now) dir a.now ≡ key (D.words dev.now) dir b.now }
+{
+    compare(dev, dir, a, b).is_eq()
+}
 
 /// The name in a slot.
 fn spelled<D: Pm>(dev: &D, dir: Inode, slot: Slot) -> Spelled
+    requires tables { AreTables (D.words dev.now) }
+    requires placed { IsPlaced dir }
     requires stands { Stands (D.words dev.now) (dir_of (D.words dev.now) dir) slot.offset slot.place }
     ensures offset { result.offset ≡ slot.offset }
-    ensures spelled { IsSpelled (dir_of (D.words dev.now) dir) result }
+    ensures spelled { IsSpelled (D.words dev.now) dir result }
 {
-    let mut words = [0; SLOT_WORDS];
-    words[0] = dev.load(slot.place) / (1 << 32);
-    for k in 1..SLOT_WORDS {
-        words[k] = dev.load(slot.place + k as u64);
-    }
     Spelled {
-        words,
+        first: dev.load(slot.place + 1),
         offset: slot.offset,
     }
 }
@@ -43,7 +112,7 @@ fn names_of<D: Pm>(alloc: Global, dev: &D, dir: Inode) -> Result<Vec<Spelled>, N
     requires pages { page_count (D.words dev.now) ≤ MOST_PAGES }
     requires kind { dir.kind ≡ DIRECTORY_KIND }
     requires placed { IsPlaced dir }
-    ensures { IfOk result (λ names. AreSpelled (dir_of (D.words dev.now) dir) names.items) }
+    ensures { IfOk result (λ names. AreSpelled (D.words dev.now) dir names.items) }
 {
     let mut names = Vec::new(alloc);
     let mut at = 0;
@@ -58,28 +127,32 @@ fn names_of<D: Pm>(alloc: Global, dev: &D, dir: Inode) -> Result<Vec<Spelled>, N
 }
 
 /// The names in a directory in the order of their words.
+///
+/// Its time grows with the names times the logarithm of their number, whatever the names are.
 fn sorted_names<D: Pm>(alloc: Global, dev: &D, dir: Inode) -> Result<Vec<Spelled>, NoMemory>
     requires tables { AreTables (D.words dev.now) }
     requires pages { page_count (D.words dev.now) ≤ MOST_PAGES }
     requires kind { dir.kind ≡ DIRECTORY_KIND }
     requires placed { IsPlaced dir }
-    ensures names { IfOk result (λ names. AreSpelled (dir_of (D.words dev.now) dir) names.items) }
-    ensures sorted { IfOk result (λ names. IsSortedByKey (λ name. name.words) (slice_cmp nat_cmp) names.items) }
+    ensures names { IfOk result (λ names. AreSpelled (D.words dev.now) dir names.items) }
+    ensures sorted { IfOk result (λ names. IsSortedByKey (key (D.words dev.now) dir) (slice_cmp nat_cmp) names.items) }
 {
     let mut names = names_of(alloc, dev, dir)?;
-    let words = |name: &Spelled| -> [u64; SLOT_WORDS]
-        ensures { result ≡ name.now.words }
-    { name.words };
-    names.sort_unstable_by_key(words);
+    let order = |a: &Spelled, b: &Spelled| -> Ordering
+        requires { AreTables (D.words dev.now) }
+        ensures { result ≡ slice_cmp nat_cmp (key (D.words dev.entry.now) dir a.now) (key (D.words dev.entry.now) dir b.now) }
+    { compare(dev, dir, a, b) };
+    names.sort_unstable_by(order);
     Ok(names)
 }
 
 /// Whether no two neighbours have the same words.
-fn are_neighbours_apart(names: &Vec<Spelled>) -> bool
-    ensures { IsTrue result ↔ AreNeighboursApart names.now.items }
+fn are_neighbours_apart<D: Pm>(dev: &D, dir: Inode, names: &Vec<Spelled>) -> bool
+    requires tables { AreTables (D.words dev.now) }
+    ensures { IsTrue result ↔ AreNeighboursApart (D.words dev.now) dir names.now.items }
 {
     for k in 1..names.len() {
-        if names[k - 1].words == names[k].words {
+        if are_alike(dev, dir, &names[k - 1], &names[k]) {
             return false;
         }
     }
@@ -101,7 +174,7 @@ fn are_slots_apart<D: Pm>(alloc: Global, dev: &D, n: u64) -> Result<bool, NoMemo
         return Ok(true);
     }
     let names = sorted_names(alloc, dev, dir)?;
-    Ok(are_neighbours_apart(&names))
+    Ok(are_neighbours_apart(dev, dir, &names))
 }
 
 /// Mount rule 18.

@@ -1,14 +1,12 @@
-use ct_base::ENTRY_WORDS;
-
-/// The words of a slot, as the length of an array.
-pub const SLOT_WORDS: usize = ENTRY_WORDS as usize;
-
-/// The name in a slot of a directory, by words that are compared.
+/// The name in a slot of a directory, by what is sorted of it: the rest is read on the device.
 #[derive(Clone, Copy, Debug)]
 pub struct Spelled {
-    /// The length of the name, and the words that hold it.
-    pub words: [u64; SLOT_WORDS],
+    /// The first word of its bytes.
+    pub first: u64,
 
     /// The offset of the slot.
     pub offset: u64,
 }
+
+/// A directory has many slots: each takes two words of memory while its names are compared.
+const _: () = prove!(size_of::<Spelled>() == 16);

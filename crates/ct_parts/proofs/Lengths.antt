@@ -1,7 +1,7 @@
 -- Lengths of partitions.
 use Rattle.std.proofs.Common.{◌≡◌, ℕ, ◌+◌, ◌-◌, ◌*◌, ◌/◌, ◌%◌, ◌^◌, ◌<◌, ◌≤◌, refl, sym, ap, ◌∙◌, lit<, arith}
 use Rattle.std.proofs.lemmas.Nat.{pow-add, le-div, div_below, mul-le, mod_below, div-add-mod'}
-use Rattle.std.proofs.Math.Nat.{mul-mod_left, mul-div_cancel, one-le-pow, pow-le-pow_right, mul_assoc}
+use Rattle.std.proofs.Math.Nat.{mul-mod_left, one-le-pow, pow-le-pow_right, mul_assoc}
 use Rattle.ct_base.specs.Ranges.{IsPartition}
 
 pub pow8_small : (n : ℕ) → n ≤ 9 → (8 ^ n ≤ 134217728) × (0 < 8 ^ n)
@@ -62,9 +62,3 @@ base_there n j length p is =
     let more : (j + 1) * (4096 * 8 ^ n) ≡ j * (4096 * 8 ^ n) + 4096 * 8 ^ n = omega arith in
     let pos = (pow8_small n p.level).1 in
     (omega (arith, bounds.0), omega (arith, bounds.1), mul-mod_left j length)
-
--- two partitions of a level at one address are one
-pub number_same : (n i j length : ℕ) → length ≡ 4096 * 8 ^ n → 0 < length → i * (4096 * 8 ^ n) ≡ j * length → i ≡ j
-number_same n i j length is pos e =
-    let e' : i * length ≡ j * length = ap (λ k. i * k) is ∙ e in
-    sym (mul-div_cancel i pos) ∙ ap (λ k. k / length) e' ∙ mul-div_cancel j pos

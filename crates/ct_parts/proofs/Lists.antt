@@ -5,9 +5,9 @@ use Rattle.std.proofs.Math.Nat.{mul-div_cancel, div-add-mod}
 use Rattle.std.proofs.lemmas.Bool.{cases_lt, cases_eq, cases_Bool, eq-eqb, eqb-true, and_parts, and_from, or_cases, both_ways, false_from_ne_true, ltb-true, lt-ltb, not-true, not_from_false}
 use Rattle.ct_base.specs.Inode.{Partition, number_of, part_bytes, part_end, IsPart, AreApart, meets, is_free, nth, free_from, free_parts}
 use Rattle.ct_base.specs.Headers.{is_one, AreDisjoint, without}
-use Rattle.ct_base.specs.Ranges.{Meet, byte, IsPartition, IsFree, IsFirstFree, IsLiveSet, Changes, NoneIn}
+use Rattle.ct_base.specs.Ranges.{Meet, IsPartition, IsFree, IsFirstFree, IsLiveSet, Changes, NoneIn}
 use Rattle.ct_parts.proofs.Bytes.{byte-live, zero_from}
-use Rattle.ct_parts.proofs.Free.{in-meet, free-clear}
+use Rattle.ct_parts.proofs.Free.{in-meet}
 use Rattle.ct_parts.proofs.Lengths.{pow8_small, at_partition, base_there}
 
 -- ---- one partition
@@ -119,13 +119,6 @@ is_free-from (p ∷ ps) n j a free =
 -- the same of a partition
 pub part_free : (ps : List Partition) (p : Partition) → IsPart p → AreDisjoint ps → is_free ps p ≡ true → IsFree (is_one ps) p.level (number_of p)
 part_free ps p part a is = is_free-is ps p.level (number_of p) a (ap (is_free ps) (nth-number p part) ∙ is)
-
-pub free_part : (ps : List Partition) (p : Partition) → IsPart p → AreDisjoint ps → IsFree (is_one ps) p.level (number_of p) → is_free ps p ≡ true
-free_part ps p part a free = sym (ap (is_free ps) (nth-number p part)) ∙ is_free-from ps p.level (number_of p) a free
-
--- the byte of a free range is 0
-pub free-byte : (ps : List Partition) (n j : ℕ) → AreDisjoint ps → is_free ps (nth n j) ≡ true → byte (is_one ps) n j ≡ 0
-free-byte ps n j a is = zero_from (is_one ps) n j (free-clear (is_one ps) n j (is_free-is ps n j a is)).down
 
 -- the set of partitions that do not meet
 pub live_set : (ps : List Partition) → AreDisjoint ps → IsLiveSet (is_one ps)

@@ -9,7 +9,7 @@ use Rattle.std.proofs.Math.Nat.{pow-suc}
 use Rattle.ct_base.specs.Ranges.{eight, summary, byte, shown, header, header_at, byte_shown, Headers}
 use Rattle.ct_base.specs.Headers.{is_one}
 use Rattle.ct_base.specs.Published.{IsLocal, shows_live, IsRightWord}
-use Rattle.ct_parts.proofs.Bytes.{get-eight, byte-live, byte-start, byte-next, none_in, up-up, summary-zero}
+use Rattle.ct_parts.proofs.Bytes.{get-eight, byte-live, byte-start, byte-next, up-up, summary-zero}
 use Rattle.std.proofs.Common.{lit<, le-ltb}
 use Rattle.ct_base.specs.Ranges.{IsLiveSet}
 use Rattle.ct_parts.proofs.Change.{div8, bytes-back}
@@ -58,11 +58,6 @@ headers_same old new word_at same h =
 
 down-level : (n j t : ℕ) → n ≤ 8 → j < 512 * 8 ^ (8 - n) → t < 8 → 8 * j + t < 512 * 8 ^ (9 - n)
 down-level n j t le lt l =
-    let e : 9 - n ≡ suc (8 - n) = omega arith in
-    omega (arith, ap (λ k. 8 ^ k) e ∙ pow-suc 8 (8 - n))
-
-up-level : (n c : ℕ) → n ≤ 8 → c < 512 * 8 ^ (9 - n) → c / 8 < 512 * 8 ^ (8 - n)
-up-level n c le lt =
     let e : 9 - n ≡ suc (8 - n) = omega arith in
     omega (arith, ap (λ k. 8 ^ k) e ∙ pow-suc 8 (8 - n))
 
@@ -123,46 +118,6 @@ module _ {word_at : ℕ → ℕ} (l : IsLocal word_at) where
             local-shown n (8 * j + t) le (omega arith)));
         rest = l.rest;
       }
-
-  -- and its ranges are partitions, none in another
-  zero-below : (n c : ℕ) → n ≤ 8 → c < 512 * 8 ^ (9 - n) → word_at (header_at (n + 1) (c / 8)) ≡ 0 → byte (shows_live word_at) n c ≡ 0
-  zero-below n c le lt z =
-      sym (local-byte n c (omega arith) lt (λ e. absurd (omega arith)))
-      ∙ ap (λ w. slice_index (to_le_bytes w64 w) (c % 8)) z ∙ zero_word (c % 8) (omega arith)
-    where
-      zero_word : (i : ℕ) → i < 8 → slice_index (to_le_bytes w64 0) i ≡ 0
-      zero_word i lt = get-eight (λ _. 0) i lt
-
-  -- the byte below a live range is 0
-  below-live : (n c : ℕ) → n ≤ 8 → c < 512 * 8 ^ (9 - n) → shows_live word_at (suc n) (c / 8) ≡ true → byte (shows_live word_at) n c ≡ 0
-  below-live n c le lt is =
-      let parts = shows-parts word_at (suc n) (c / 8) is in
-      zero-below n c le lt (l.itself n (c / 8) le (up-level n c le lt) parts.2)
-
-  pub local-apart : (n j d : ℕ) → shows_live word_at n j ≡ true → shows_live word_at (n + suc d) (j / 8 ^ suc d) ≡ false
-  local-apart n j d is =
-      false_from_ne_true (shows_live word_at (n + suc d) (j / 8 ^ suc d)) (λ up.
-      let high = (shows-parts word_at (n + suc d) (j / 8 ^ suc d) up).0 in
-      let c = j / 8 ^ d in
-      let level : n + suc d ≡ suc (n + d) = omega arith in
-      let up' : shows_live word_at (suc (n + d)) (c / 8) ≡ true =
-      subst (λ (k : ℕ). shows_live word_at k (c / 8) ≡ true) level (subst (λ (y : ℕ). shows_live word_at (n + suc d) y ≡ true) (sym (up-up j d)) up) in
-      let top = shows-parts word_at (suc (n + d)) (c / 8) up' in
-      let e : 9 - (n + d) ≡ suc (9 - suc (n + d)) = omega arith in
-      let range : c < 512 * 8 ^ (9 - (n + d)) = let t = top.1 in omega (arith, t, ap (λ k. 8 ^ k) e ∙ pow-suc 8 (9 - suc (n + d))) in
-      both_ways (shows_live word_at n j) (none_in (shows_live word_at) (n + d) c (below-live (n + d) c (omega arith) range up') d n j refl refl) is)
-
-  -- no live range is in slots 0 to 9
-  pub local-slot : (n d j : ℕ) → n + d ≡ 9 → shows_live word_at n j ≡ true → j / 8 ^ d < 10 → ⊥
-  local-slot n zero j nine is low =
-      let parts = shows-parts word_at n j is in
-      let n9 : n ≡ 9 = omega arith in
-      omega (arith, sym parts.2 ∙ ap (λ k. byte_shown word_at k j) n9 ∙ l.slots j (omega (arith, low)))
-  local-slot n (suc d) j nine is low =
-      let c = j / 8 ^ d in
-      let up : c / 8 ≡ j / 8 ^ suc d = up-up j d in
-      let zero' : byte (shows_live word_at) 8 c ≡ 0 = zero-below 8 c (omega arith) (omega (arith, up)) (l.below (c / 8) (omega (arith, up))) in
-      both_ways (shows_live word_at n j) (none_in (shows_live word_at) 8 c zero' d n j (omega arith) refl) is
 
 -- ---- an image with no partition
 

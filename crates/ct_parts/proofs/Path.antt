@@ -225,17 +225,6 @@ on_way_number m p first before now at j b part low high g =
     let up = subst (λ (n : ℕ). IsPartition n (p / 8 ^ d)) e (up_partition m d p (omega arith) part) in
     omega (arith, g.number, up.high)
 
--- off the path a word stays
-pub on_way_others : (m p first : ℕ) (before now after : ℕ → ℕ) (at j b : ℕ) → OnWay m p first before now (at - m) j b → m ≤ at → at ≤ 9
-    → ((a : ℕ) → a % 8 ≡ 0 → a ≢ header_at (at + 1) (j / 8) → after a ≡ now a)
-    → (a : ℕ) → a % 8 ≡ 0 → ((d : ℕ) → m + d ≤ 9 → a ≢ header_at (m + d + 1) (p / 8 ^ suc d)) → after a ≡ before a
-on_way_others m p first before now after at j b g low high others a eight off =
-    let d = at - m in
-    let e : m + d ≡ at = omega arith in
-    let here : header_at (m + d + 1) (p / 8 ^ suc d) ≡ header_at (at + 1) (j / 8) =
-    ap (λ n. header_at (n + 1) (p / 8 ^ suc d)) e ∙ ap (header_at (at + 1)) (sym (ap (λ x. x / 8) g.number ∙ up-up p d)) in
-    others a eight (λ is. off d (omega arith) (is ∙ sym here)) ∙ g.others a eight (λ x lt. off x (omega arith))
-
 -- ---- the addresses as a list
 
 pub words_above-more : (n j : ℕ) → n ≤ 9 → words_above n j (10 - n) ≡ header_at (n + 1) (j / 8) ∷ words_above (n + 1) (j / 8) (10 - (n + 1))

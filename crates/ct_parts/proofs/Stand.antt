@@ -5,16 +5,16 @@ use Rattle.std.specs.Int.{w64, from_le_bytes, to_le_bytes}
 use Rattle.std.proofs.lemmas.Nat.{pow-add, le_bytes_8}
 use Rattle.std.proofs.lemmas.List.{get_or_past}
 use Rattle.std.proofs.lemmas.Bool.{cases_lt, cases_Bool, both_ways, false_from_ne_true}
-use Rattle.ct_base.specs.Inode.{Partition, number_of, little, IsPart, is_free}
-use Rattle.ct_base.specs.Headers.{is_one, byte_place, ranges, HeadersStand, AreDisjoint, StandFor, without}
-use Rattle.ct_base.specs.Ranges.{eight, byte, shown, header, header_at, Headers, IsPartition, Changes}
+use Rattle.ct_base.specs.Inode.{Partition, little}
+use Rattle.ct_base.specs.Headers.{is_one, byte_place, ranges, HeadersStand, StandFor}
+use Rattle.ct_base.specs.Ranges.{eight, byte, shown, header, header_at, Headers, IsPartition}
 use Rattle.ct_parts.proofs.Bytes.{get-eight, byte-live}
 use Rattle.ct_parts.proofs.Change.{eight-same}
 use Rattle.ct_parts.proofs.Descent.{shown_is, shown-byte}
 use Rattle.ct_parts.proofs.Path.{header_at-bounds, header_at_one, header_at_more}
 use Rattle.ct_parts.proofs.Local.{byte-same}
 use Rattle.ct_parts.proofs.Says.{live_by_byte}
-use Rattle.ct_parts.proofs.Lists.{live_set, join, leave, without-disjoint}
+use Rattle.ct_parts.proofs.Lists.{live_set}
 
 -- ---- places
 
@@ -141,20 +141,4 @@ stand-same b ps qs same h =
     record {
       bytes = λ n j le lt. h.bytes n j le lt ∙ sym (ap (λ k. if (n == 9) && nat_lt j 10 then 48 else k) (byte-same (is_one ps) (is_one qs) same n j));
       rest = h.rest;
-    }
-
--- a partition joins a list
-pub take_stand : (b c : ℕ → ℕ) (ps : List Partition) (q : Partition) → StandFor b ps → IsPart q → is_free ps q ≡ true → ((v : ℕ) → c v < 256)
-    → ((old new : ℕ → ℕ → Bool) → Headers old (λ a. little b a 8) → Changes old new q.level (number_of q) 16 → Headers new (λ a. little c a 8)) → StandFor c (q ∷ ps)
-take_stand b c ps q s part free small path =
-    let apart : AreDisjoint (q ∷ ps) = (part, free, s.apart) in
-    record { apart = apart; stand = words-bytes c (q ∷ ps) small (path (is_one ps) (is_one (q ∷ ps)) (bytes-words b ps s.stand) (join ps q apart)) }
-
--- and leaves it
-pub release_stand : (b c : ℕ → ℕ) (ps : List Partition) (q : Partition) → StandFor b ps → IsPart q → is_one ps q.level (number_of q) ≡ true → ((v : ℕ) → c v < 256)
-    → ((old new : ℕ → ℕ → Bool) → Headers old (λ a. little b a 8) → Changes old new q.level (number_of q) 0 → Headers new (λ a. little c a 8)) → StandFor c (without q ps)
-release_stand b c ps q s part is small path =
-    record {
-      apart = without-disjoint q ps s.apart;
-      stand = words-bytes c (without q ps) small (path (is_one ps) (is_one (without q ps)) (bytes-words b ps s.stand) (leave ps q part s.apart is));
     }

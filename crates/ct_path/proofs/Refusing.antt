@@ -1,5 +1,5 @@
 -- What callers of the plain tree's checks get: the check that fails where a path leads to nothing, and the node where it leads.
-use Rattle.std.proofs.Common.{◌≡◌, ◌≢◌, ℕ, List, ◌∷◌, Result, Err, Some, None, Bor, refl, ap, ◌∙◌}
+use Rattle.std.proofs.Common.{◌≡◌, ◌≢◌, ℕ, List, ◌∷◌, Result, Err, Some, None, refl, ap, ◌∙◌}
 use Rattle.std.specs.Prelude.{is_none}
 use Rattle.std.specs.declared.option.Option.{Option}
 use Rattle.ct_base.specs.Objects.{Object}
@@ -7,12 +7,12 @@ use Rattle.ct_base.specs.Path.{names_of}
 use Rattle.ct_tree.specs.Tree.{Tree}
 use Rattle.ct_tree.specs.Ordered.{IsTree}
 use Rattle.ct_tree.specs.Stands.{Stands}
-use Rattle.ct_tree.specs.Checks.{first_of, refuse_if, bad_path, no_node, no_dir, at, parent_at}
+use Rattle.ct_tree.specs.Checks.{first_of, refuse_if, bad_path, no_node, at}
 use Rattle.ct_tree.specs.declared.call.Refusal.{Refusal}
 use Rattle.ct_tree.specs.declared.call.Refusal.TheVariants.{BadPath as bad_refusal}
 use Rattle.ct_path.specs.declared.fault.PathFault.{PathFault}
 use Rattle.ct_path.specs.declared.fault.PathFault.TheVariants.{BadPath, NotFound, NotDir}
-use Rattle.ct_path.specs.Resolves.{refusal_of, IsAnswer, IsParent, Resolves, Splits}
+use Rattle.ct_path.specs.Resolves.{refusal_of, IsAnswer, Resolves}
 
 no_path : (o : Option (List (List ℕ))) → o ≡ None → refuse_if (is_none o) bad_refusal ≡ Some bad_refusal
 no_path None is = refl
@@ -38,10 +38,6 @@ module _ {fs : ℕ → Object} {path : List ℕ} (t : Tree) (tree : IsTree t) (s
   pub node_of : (answer : Result ℕ PathFault) → Resolves fs path answer → answer ≢ Err BadPath → IsAnswer fs (at t path) answer
   node_of answer r other = (r.follows (λ none. other (r.bad.1 none))).tree t tree stands
 
-  -- the parent of the path
-  pub parent_node : (answer : Result (ℕ × Bor (List ℕ)) PathFault) → Splits fs path answer → answer ≢ Err BadPath → IsParent fs (parent_at t path) answer
-  parent_node answer s other = (s.finds (λ none. other (s.bad.1 none))).tree t tree stands
-
   later : (fault : PathFault) → fault ≢ BadPath → Resolves fs path (Err fault) → (more : List (Option Refusal)) → first_of (bad_path path ∷ no_node (at t path) ∷ more) ≡ Some (refusal_of fault)
   later fault other r more =
       let answer : Result ℕ PathFault = Err fault in
@@ -54,16 +50,3 @@ module _ {fs : ℕ → Object} {path : List ℕ} (t : Tree) (tree : IsTree t) (s
   refused BadPath r more = ap (λ q. first_of (q ∷ no_node (at t path) ∷ more)) (fails_first path (Err BadPath) r.bad refl)
   refused NotFound r more = later NotFound (λ is. cc) r more
   refused NotDir r more = later NotDir (λ is. cc) r more
-
-  later_parent : (fault : PathFault) → fault ≢ BadPath → Splits fs path (Err fault) → (more : List (Option Refusal)) → first_of (bad_path path ∷ no_dir (parent_at t path) ∷ more) ≡ Some (refusal_of fault)
-  later_parent fault other s more =
-      let answer : Result (ℕ × Bor (List ℕ)) PathFault = Err fault in
-      let lawful : answer ≢ Err BadPath = λ is. other (same_fault fault BadPath answer refl is) in
-      ap (λ q. first_of (q ∷ no_dir (parent_at t path) ∷ more)) (passes_first path (Err fault) s.bad lawful)
-      ∙ ap (λ q. first_of (q ∷ more)) (parent_node (Err fault) s lawful)
-
-  -- the same where a parent is wanted
-  pub parent_refused : (fault : PathFault) → Splits fs path (Err fault) → (more : List (Option Refusal)) → first_of (bad_path path ∷ no_dir (parent_at t path) ∷ more) ≡ Some (refusal_of fault)
-  parent_refused BadPath s more = ap (λ q. first_of (q ∷ no_dir (parent_at t path) ∷ more)) (fails_first path (Err BadPath) s.bad refl)
-  parent_refused NotFound s more = later_parent NotFound (λ is. cc) s more
-  parent_refused NotDir s more = later_parent NotDir (λ is. cc) s more

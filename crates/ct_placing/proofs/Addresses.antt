@@ -32,11 +32,6 @@ pub range_high : (a n j : ℕ) → a % 8 ≡ 0 → 618475290624 ≤ a → n ≡ 
     → IsRangeAt a n j
 range_high a n j even from level number le lt = record { level = le; number = lt; is = let at = header_at_more (n + 1) j (omega (arith, level)) in omega (arith, at, level, number) }
 
--- and no other
-pub low_range : (a n j : ℕ) → a < 618475290624 → IsRangeAt a n j → (n ≡ 0) × (j ≡ (a - 549755813888) / 8)
-low_range a zero j lt r = let at = header_at_one 1 j (omega arith) in (omega arith, omega (arith, at, r.is))
-low_range a (suc n) j lt r = let at = header_at_more (suc n + 1) j (omega arith) in absurd (omega (arith, at, r.is))
-
 pub high_range : (a n j : ℕ) → 618475290624 ≤ a → IsRangeAt a n j → (n ≡ 1 + (a - 618475290624) / 8589934592) × (j ≡ (a - 618475290624) % 8589934592 / 8)
 high_range a zero j ge r = let at = header_at_one 1 j (omega arith) in absurd (omega (arith, at, r.is, few 0 j r.number))
 high_range a (suc n) j ge r =

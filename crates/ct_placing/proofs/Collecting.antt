@@ -1,5 +1,5 @@
 -- Partitions collected by rising number of their inodes, put in order, and what is mapped beside them.
-use Rattle.std.proofs.Common.{◌≡◌, ◌≢◌, ℕ, zero, suc, ◌+◌, ◌-◌, ◌*◌, ◌/◌, ◌%◌, ◌^◌, ◌<◌, ◌≤◌, List, [], ◌∷◌, ◌++◌, length, get_or, length-append, refl, sym, ap, subst, ◌∙◌, inl, inr, arith}
+use Rattle.std.proofs.Common.{◌≡◌, ◌≢◌, ℕ, zero, suc, ◌+◌, ◌-◌, ◌*◌, ◌/◌, ◌%◌, ◌^◌, ◌<◌, ◌≤◌, List, [], ◌∷◌, ◌++◌, length, get_or, length-append, refl, sym, ap, ◌∙◌, inl, inr, arith}
 use Rattle.std.proofs.Math.Nat.{one-le-pow}
 use Rattle.std.specs.List.Sorted.{IsNonDecreasingBy, IsPermutation}
 use Rattle.std.proofs.lemmas.Bool.{cases_eq, cases_lt, ne_eqb, eqb-false}
@@ -18,14 +18,6 @@ use Rattle.ct_placing.specs.Extents.{AreExtents, AreInOrder, Collects, IsExtent,
 -- a cell with a page has a table above it
 pub parent_there : (img : List ℕ) (e y : ℕ) → page_at img (suc e) y ≢ 0 → page_at img e (y / 512) ≢ 0
 parent_there img e y ne none = ne (page_at-next img e y ∙ ap (λ t. next img t (y % 512)) none ∙ next-zero img (y % 512))
-
-pub collect_start : (b : ℕ → ℕ) (count : ℕ) → Collects b count 1 []
-collect_start b count = record {
-  each = λ k d lt. absurd (omega arith);
-  low = λ k d lt. absurd (omega arith);
-  all = λ i owns lt. absurd (omega (arith, owns.live.number.from));
-  rises = λ i j d lt below. absurd (omega arith);
-}
 
 pub collect_push : {b : ℕ → ℕ} {count n : ℕ} {xs : List Extent} → Collects b count n xs → (e : Extent) → IsExtent b count e → e.inode ≡ n → Collects b count (n + 1) (xs ++ e ∷ [])
 collect_push {b} {count} {n} {xs} c e x is = record {
@@ -47,17 +39,6 @@ collect_push {b} {count} {n} {xs} c e x is = record {
             let q = ap (λ (f : Extent). f.inode) (get_or_push xs e d j (omega (arith, size, below))) in
             omega (arith, p, q, is, c.low i d (omega (arith, size, below)))
       ];
-}
-
-pub collect_skip : {b : ℕ → ℕ} {count n : ℕ} {xs : List Extent} → Collects b count n xs → (Owns b count n → ⊥) → Collects b count (n + 1) xs
-collect_skip {b} {count} {n} {xs} c none = record {
-  each = c.each;
-  low = All-weaker (λ f. f.inode < n) (λ f. f.inode < n + 1) (λ f lt. omega arith) xs c.low;
-  all = λ i owns lt. elim (cases_eq i n) [
-    | inl same ↦ absurd (none (subst (Owns b count) same owns))
-    | inr other ↦ c.all i owns (omega arith)
-  ];
-  rises = c.rises;
 }
 
 pub collect_all : {b : ℕ → ℕ} {count n : ℕ} {xs : List Extent} → Collects b count n xs → n ≡ count + 1 → AreExtents b count xs
@@ -199,17 +180,6 @@ module _ (img : List ℕ) {b : ℕ → ℕ} {count : ℕ} {xs : List Extent} (es
         some = omega (arith, e.base, e.end, some);
         high = omega (arith, e.end, bounds.1);
       }
-
-  pub pass_start : Passes img b count xs 0 1342177280
-  pass_start = record {
-    low = omega arith;
-    done = λ p from to none. absurd (omega arith);
-    behind = λ j d lt below. absurd (omega arith);
-    ahead = λ j d le below. omega (arith, (whole j d below).low);
-  }
-
-  pub extent_high : (k : ℕ) (d : Extent) → k < length xs → (get_or xs k d).base / 4096 ≤ 512 ^ 4
-  extent_high k d lt = let w = whole k d lt in omega (arith, w.high, w.some)
 
   pub pass_more : AreInOrder xs → (k : ℕ) (d : Extent) → k < length xs → {page : ℕ} → Passes img b count xs k page
       → ((p : ℕ) → page ≤ p → p < (get_or xs k d).base / 4096 → page_at img 4 p ≡ 0) → Passes img b count xs (k + 1) ((get_or xs k d).end / 4096)

@@ -5,8 +5,9 @@ use Rattle.ct_base.specs.Inode.{little, part_bytes}
 use Rattle.ct_base.specs.declared.inode.Inode.{Inode}
 use Rattle.ct_base.specs.Rules.{HasRoom, IsRestZero}
 use Rattle.ct_base.specs.View.{is_seen, view}
-use Rattle.ct_base.specs.Walk.{byte, word, word_in, page_at}
+use Rattle.ct_base.specs.Walk.{byte, word, word_in, next, page_at, page_count}
 use Rattle.ct_base.specs.Words.{word_at, place_at}
+use Rattle.ct_image.proofs.Steps.{named_page-bounds, next-at, next-zero, page_at-next}
 use Rattle.ct_image.proofs.Write.{word_at-there}
 use Rattle.ct_state.proofs.Bytes.{little-zero, little-none}
 use Rattle.ct_state.proofs.Carry.{view-seen}
@@ -21,6 +22,16 @@ shown_none img x none = ap (λ p. word_in img p (x % 4096 / 8) % 2 ^ 64) none
 
 pub shown_there : (img : List ℕ) → ((w : ℕ) → word img w < 2 ^ 64) → (x : ℕ) → page_at img 4 (x / 4096) ≢ 0 → shown_word img x ≡ word img (place_at img x)
 shown_there img fit x there = let same = word_at-there img x there in omega (arith, same, fit (place_at img x))
+
+-- an entry of 64 bits names a page below 2^52
+pub page_small : (img : List ℕ) → ((w : ℕ) → word img w < 2 ^ 64) → (n : ℕ) → page_at img 4 n ≢ 0 → page_at img 4 n < 2 ^ 52
+page_small img fit n there =
+    let t = page_at img 3 (n / 512) in
+    let step = page_at-next img 3 n in
+    let table : t ≢ 0 = λ none. there (step ∙ ap (λ k. next img k (n % 512)) none ∙ next-zero img (n % 512)) in
+    let named = next-at img t (n % 512) table in
+    let bounds = named_page-bounds (page_count img) (word img (t * 512 + n % 512)) (λ none. there (step ∙ named ∙ none)) in
+    omega (arith, step, named, bounds.2, fit (t * 512 + n % 512))
 
 -- from address a on, in one page
 module _ (img : List ℕ) (fit : (w : ℕ) → word img w < 2 ^ 64) (a e : ℕ) (aligned : a % 8 ≡ 0) (end : e % 8 ≡ 0) (page : e ≤ (a / 4096 + 1) * 4096) (there : page_at img 4 (a / 4096) ≢ 0) where

@@ -14,13 +14,13 @@ use crate::extent::Extent;
 use crate::extents::sorted_extents;
 use crate::header::{TOP, byte_of, header, range_at};
 use crate::inodes::bytes_of;
+use crate::zeros::zero_up_to;
 use ct_base::{
     MOST_INODES, NoMemory, PAGE_BYTES, PARTITION_SLOT, SLOT_SPAN, TABLE_ENTRIES, TOP_LEVEL,
 };
 use ct_header::summary_of;
 use ct_inode::get;
 use ct_pm::Pm;
-use ct_walk::absent_from;
 use ct_words::load_word;
 use std::alloc::Global;
 
@@ -167,10 +167,10 @@ fn right_up_to<D: Pm>(dev: &D, extents: &Vec<Extent>, address: u64) -> Option<u6
     ensures right { IfSome result (λ e. AreHeaderWords (word_of (D.words dev.now)) (parts_of (D.words dev.now)) address e) }
     ensures none { IfNone result (AreHeaderWords (word_of (D.words dev.now)) (parts_of (D.words dev.now)) SLOT_SPAN (2 * SLOT_SPAN) → ⊥) }
 {
-    let page = address / PAGE_BYTES;
-    let absent = absent_from(dev, 4, page, PAST / PAGE_BYTES);
-    if absent > 0 {
-        return Some((page + absent) * PAGE_BYTES);
+    if address % PAGE_BYTES == 0 {
+        if let Some(end) = zero_up_to(dev, address, PAST) {
+            return Some(end);
+        }
     }
     if is_right_word(dev, extents, address) {
         Some(address + 8)
@@ -181,7 +181,7 @@ fn right_up_to<D: Pm>(dev: &D, extents: &Vec<Extent>, address: u64) -> Option<u6
 
 /// Whether each word of root slot 1 is 0, or a header word that is right.
 ///
-/// Its time grows with the words that are mapped there.
+/// Its time grows with the words that are mapped there: one load for each word of a page of zeros.
 fn are_right_words<D: Pm>(dev: &D, extents: &Vec<Extent>) -> bool
     requires tables { AreTables (D.words dev.now) }
     requires apart { ArePartsApart (view (D.words dev.now)) (inode_count (D.words dev.now)) }

@@ -3,12 +3,12 @@ ghost use Rattle.std.specs.Prelude.{◌≡◌, ◌≢◌, ◌↔◌, ℕ, ◌<�
 ghost use Rattle.ct_base.specs.Inode.{inode};
 ghost use Rattle.ct_base.specs.Rules.{ArePlaced, AreTailsZero, HasRoom, IsPlaced};
 ghost use Rattle.ct_base.specs.View.{inode_count, view};
-ghost use Rattle.ct_base.specs.Walk.{AreTables, byte, page_count};
+ghost use Rattle.ct_base.specs.Walk.{AreTables, byte};
 ghost use Rattle.ct_placing.specs.Zeros.{IsTailZero};
 
 use crate::inodes::bytes_of;
 use crate::zeros::are_zero_between;
-use ct_base::{ADDRESS_END, Inode, MOST_INODES, MOST_PAGES, TOP_LEVEL, Vaddr};
+use ct_base::{ADDRESS_END, Inode, MOST_INODES, TOP_LEVEL, Vaddr};
 use ct_inode::get;
 use ct_pm::Pm;
 use ct_walk::byte_at;
@@ -35,7 +35,6 @@ fn are_bytes_zero<D: Pm>(dev: &D, from: u64, to: u64) -> bool
 // Whether the bytes of an inode's partition past its size are 0.
 fn is_tail_zero<D: Pm>(dev: &D, f: Inode) -> bool
     requires tables { AreTables (D.words dev.now) }
-    requires pages { page_count (D.words dev.now) ≤ MOST_PAGES }
     requires room { HasRoom f }
     ensures { IsTrue result ↔ IsTailZero (view (D.words dev.now)) f }
 {
@@ -48,7 +47,6 @@ fn is_tail_zero<D: Pm>(dev: &D, f: Inode) -> bool
 // The same of an inode by its number, where it is live and has a partition.
 fn has_tail_zero<D: Pm>(dev: &D, n: u64) -> bool
     requires tables { AreTables (D.words dev.now) }
-    requires pages { page_count (D.words dev.now) ≤ MOST_PAGES }
     requires from { 1 ≤ n }
     requires few { n ≤ MOST_INODES }
     requires placed { (inode (view (D.words dev.now)) n).kind ≢ 0 → IsPlaced (inode (view (D.words dev.now)) n) }
@@ -67,7 +65,6 @@ fn has_tail_zero<D: Pm>(dev: &D, n: u64) -> bool
 /// Its time grows with the inodes, and with the pages that are mapped in partitions.
 pub fn are_tails_zero<D: Pm>(dev: &D) -> bool
     requires tables { AreTables (D.words dev.now) }
-    requires pages { page_count (D.words dev.now) ≤ MOST_PAGES }
     requires few { inode_count (D.words dev.now) ≤ MOST_INODES }
     requires placed { ArePlaced (view (D.words dev.now)) (inode_count (D.words dev.now)) }
     ensures { IsTrue result ↔ AreTailsZero (view (D.words dev.now)) (inode_count (D.words dev.now)) }

@@ -1,11 +1,8 @@
 -- Lists of wants that want the same cells: as much is missing of them, and they may be joined.
-use Rattle.std.proofs.Common.{◌≡◌, ℕ, ◌+◌, ◌-◌, ◌*◌, ◌^◌, ◌<◌, ◌≤◌, Bool, true, false, List, [], ◌∷◌, ◌++◌, refl, sym, ap, ◌∙◌, inl, inr, arith}
+use Rattle.std.proofs.Common.{◌≡◌, ℕ, ◌+◌, ◌-◌, ◌*◌, ◌^◌, ◌<◌, ◌≤◌, Bool, true, false, List, [], ◌∷◌, ◌++◌, refl, sym, ap, ◌∙◌, arith}
 use Rattle.std.specs.Prelude.{◌==◌, ◌&&◌, ◌||◌}
-use Rattle.std.proofs.lemmas.Bool.{cases_lt, or_cases, or_left, or_right}
 use Rattle.ct_base.specs.Walk.{page_at}
 use Rattle.ct_base.specs.Wants.{Want, is_on_path, is_wanted, missing_at, missing}
-use Rattle.ct_pieces.proofs.Steps.{width_pos}
-use Rattle.ct_plan.proofs.Short.{same_truth, tests_hold, tests_say}
 use Rattle.ct_image.proofs.MissingLess.{count_below-same}
 
 missing_at_same : (img : List ℕ) (wants few : List Want) (d : ℕ) → ((x : ℕ) → is_wanted few d x ≡ is_wanted wants d x) → missing_at img few d ≡ missing_at img wants d
@@ -35,26 +32,3 @@ same_append xs ys us vs d x one two =
     is_wanted-append xs ys d x ∙ ap (λ t. t || is_wanted ys d x) one ∙ ap (λ t. is_wanted us d x || t) two ∙ sym (is_wanted-append us vs d x)
 
 -- ---- a want cut in two
-
--- a want wants what its parts before and after an address want
-pub split_want : (h s l t d x : ℕ) → s < t → t < s + l
-    → is_on_path d x (record { height = h; at = s; len = l }) ≡ (is_on_path d x (record { height = h; at = s; len = t - s }) || is_on_path d x (record { height = h; at = t; len = s + l - t }))
-split_want h s l t d x after before =
-    same_truth (is_on_path d x (record { height = h; at = s; len = l })) (is_on_path d x (record { height = h; at = s; len = t - s }) || is_on_path d x (record { height = h; at = t; len = s + l - t }))
-    (λ on.
-    let is = tests_say (x * w + 1) (s + l) s ((x + 1) * w) (d + h) 4 on in
-    elim (cases_lt (x * w) t) [
-      | inl low ↦ or_left _ _ (tests_hold (x * w + 1) (s + (t - s)) s ((x + 1) * w) (d + h) 4 is.0 (omega (arith, low, after)) is.2)
-      | inr high ↦ or_right (is_on_path d x (record { height = h; at = s; len = t - s })) _ (tests_hold (x * w + 1) (t + (s + l - t)) t ((x + 1) * w) (d + h) 4 is.0 (omega (arith, is.1, before)) (omega (arith, high, width_pos (4 - d))))
-    ])
-    (λ parts. elim (or_cases (is_on_path d x (record { height = h; at = s; len = t - s })) (is_on_path d x (record { height = h; at = t; len = s + l - t })) parts) [
-      | inl on ↦
-          let is = tests_say (x * w + 1) (s + (t - s)) s ((x + 1) * w) (d + h) 4 on in
-          tests_hold (x * w + 1) (s + l) s ((x + 1) * w) (d + h) 4 is.0 (omega (arith, is.1, after, before)) is.2
-      | inr on ↦
-          let is = tests_say (x * w + 1) (t + (s + l - t)) t ((x + 1) * w) (d + h) 4 on in
-          tests_hold (x * w + 1) (s + l) s ((x + 1) * w) (d + h) 4 is.0 (omega (arith, is.1, before)) (omega (arith, is.2, after))
-    ])
-  where
-    w : ℕ
-    w = 4096 * 512 ^ (4 - d)

@@ -1,15 +1,15 @@
 -- Values stored one by one, and lines flushed one by one.
 use Rattle.std.proofs.Common.{◌≡◌, ◌≢◌, ℕ, zero, suc, ◌+◌, ◌-◌, ◌/◌, ◌<◌, ◌≤◌, ◌++◌, List, [], ◌∷◌, Option, Result, Ok, Err, length, set, get_or, refl, sym, ◌∙◌, ap, subst, inl, inr, arith}
 use Rattle.std.specs.Prelude.{OnOk, slice_index}
-use Rattle.std.proofs.lemmas.Bool.{cases_lt, cases_eq}
+use Rattle.std.proofs.lemmas.Bool.{cases_eq}
 use Rattle.std.proofs.lemmas.List.{get_or-set_same, get_or-set_other}
 use Rattle.ct_pm.specs.declared.step.Step.TheVariants.{Store, Flush}
 use Rattle.ct_pm.specs.Images.{History}
-use Rattle.ct_pm.specs.Device.{with_steps, AddsStep, SameOff, QuietOff, MakesOnly, IsIn, IsValueOf, stores_of, flushes_of, line_count, Puts, MayPut, KeepsOthersBack}
-use Rattle.ct_pm.proofs.Made.{no_steps, makes_none, makes_step}
+use Rattle.ct_pm.specs.Device.{with_steps, AddsStep, SameOff, QuietOff, MakesOnly, IsIn, IsValueOf, stores_of, flushes_of, line_count, KeepsOthersBack}
+use Rattle.ct_pm.proofs.Made.{makes_step}
 use Rattle.ct_pm.proofs.Told.{with_more}
 use Rattle.ct_pm.proofs.OneWord.{Replays, on_device}
-use Rattle.ct_pm.proofs.Quiet.{same_off_set, quiet_here, quiet_store, back_store}
+use Rattle.ct_pm.proofs.Quiet.{same_off_set, quiet_store, back_store}
 
 -- the first i values stand, and the rest is as it was
 pub record StoredSoFar (first : ℕ) (values : List ℕ) (i : ℕ) (was words : List ℕ) (old told : Option History) : Type 0 where
@@ -19,16 +19,6 @@ pub record StoredSoFar (first : ℕ) (values : List ℕ) (i : ℕ) (was words : 
   pub others : KeepsOthersBack (IsIn first (length values)) old told
   pub steps : told ≡ with_steps (stores_of first values i) old
   pub made : MakesOnly (IsValueOf first values) old told
-
-pub stored_none : (first : ℕ) (values was : List ℕ) (old : Option History) → StoredSoFar first values 0 was was old old
-stored_none first values was old = record {
-  put = λ k below. absurd (omega arith);
-  same = record { size = refl; others = λ word off. refl };
-  quiet = quiet_here (IsIn first (length values)) old;
-  others = λ line apart back. back;
-  steps = no_steps old;
-  made = makes_none (IsValueOf first values) old;
-}
 
 steps_more : {T E : Type 0} {done : T} {value : ℕ} {told new : Option History} (first i : ℕ) (values : List ℕ) (old : Option History) → value ≡ slice_index values i → told ≡ with_steps (stores_of first values i) old
     → AddsStep {T = T} {E = E} (Ok done) (Store (first + i) value) told new → new ≡ with_steps (stores_of first values (i + 1)) old
@@ -62,21 +52,6 @@ stored_more {done = done} {first = first} {i = i} {value = value} {values = valu
       steps = steps_more first i values old is so_far.steps adds;
       made = makes_step (Ok done) so_far.made adds (i, within, refl, is);
     }
-
-pub stored_all : {first : ℕ} {values was words : List ℕ} {old told : Option History} → StoredSoFar first values (length values) was words old told → Puts first values was words
-stored_all so_far = record { put = so_far.put; same = so_far.same }
-
-pub stored_some : {first i : ℕ} {values was words : List ℕ} {old told : Option History} → StoredSoFar first values i was words old told → i ≤ length values → MayPut first values was words
-stored_some {first = first} {i = i} {values = values} so_far within = record {
-  put = λ k below. elim (cases_lt k i) [
-    | inl before ↦ inr (so_far.put k before)
-    | inr later ↦ inl (so_far.same.others (first + k) (λ inside. absurd (omega (arith, inside.1))))
-  ];
-  same = record {
-    size = so_far.same.size;
-    others = λ word off. so_far.same.others word (λ inside. off (inside.0, omega (arith, inside.1)));
-  };
-}
 
 pub flushed_more : {T E : Type 0} {done : T} {from line : ℕ} {told new : Option History} (old : Option History) → from ≤ line → told ≡ with_steps (flushes_of from (line - from)) old
     → AddsStep {T = T} {E = E} (Ok done) (Flush line) told new → new ≡ with_steps (flushes_of from (line + 1 - from)) old

@@ -1,10 +1,10 @@
 -- What the steps of a stretch store, given the words that read before each.
-use Rattle.std.proofs.Common.{◌≡◌, ℕ, ◌≤◌, List, [], ◌∷◌, ◌++◌, Option, Some, None, Result, Ok, Err, length, refl, sym, ◌∙◌, ap, subst, arith, length-append}
+use Rattle.std.proofs.Common.{◌≡◌, ℕ, ◌≤◌, List, [], ◌∷◌, ◌++◌, Option, Some, None, length, refl, sym, ◌∙◌, ap, subst, arith, length-append}
 use Rattle.std.specs.Prelude.{IfSome}
 use Rattle.ct_pm.specs.declared.step.Step.{Step}
 use Rattle.ct_pm.specs.declared.step.Step.TheVariants.{Store, Flush, Fence}
 use Rattle.ct_pm.specs.Images.{History, after, at, reads, words_after, IsAllowed, WasAllowed}
-use Rattle.ct_pm.specs.Device.{with_steps, AddsStep, EachImage, LeavesOnly, StoresOnly, EachStores, MakesOnly, EachStoresOver, StoresOver}
+use Rattle.ct_pm.specs.Device.{with_steps, EachImage, LeavesOnly, StoresOnly, EachStores, MakesOnly, EachStoresOver, StoresOver}
 use Rattle.ct_pm.proofs.Steps.{first_all, first-push}
 use Rattle.ct_pm.proofs.Allowed.{push, allowed_reads}
 use Rattle.ct_pm.proofs.Told.{with_more}
@@ -88,14 +88,6 @@ each_weaker R S past (step ∷ added) weak each =
       each_weaker R S past added weak each.1,
     )
 
-if_weaker : (R S : List ℕ → ℕ → ℕ → Type 0) (old : Option History) (added : List Step) → ((image : List ℕ) (word value : ℕ) → R image word value → S image word value)
-    → IfSome old (λ past. EachStoresOver R past added) → IfSome old (λ past. EachStoresOver S past added)
-if_weaker R S None added weak each = tt
-if_weaker R S (Some past) added weak each = each_weaker R S past added weak each
-
-pub over_weaker : {R : List ℕ → ℕ → ℕ → Type 0} {old new : Option History} (S : List ℕ → ℕ → ℕ → Type 0) → ((image : List ℕ) (word value : ℕ) → R image word value → S image word value) → StoresOver R old new → StoresOver S old new
-over_weaker {R = R} {old = old} S weak over = record { added = over.added; goes_on = over.goes_on; each = if_weaker R S old over.added weak over.each }
-
 -- no step
 pub over_none : (R : List ℕ → ℕ → ℕ → Type 0) (told : Option History) → StoresOver R told told
 over_none R None = record { added = []; goes_on = refl; each = tt }
@@ -127,14 +119,3 @@ over_then {R = R} {old = old} {mid = mid} over more = record {
   goes_on = more.goes_on ∙ ap (with_steps more.added) over.goes_on ∙ with_more old over.added more.added;
   each = if_then R old mid more.added over.added over.goes_on over.each more.each;
 }
-
-if_one : (R : List ℕ → ℕ → ℕ → Type 0) (told : Option History) (words : List ℕ) (step : Step) → IfSome told (λ h. words ≡ reads h) → StoresOnly (R words) step → IfSome told (λ past. EachStoresOver R past (step ∷ []))
-if_one R None words step replays one = tt
-if_one R (Some h) words step replays one = (subst (λ (l : List ℕ). StoresOnly (R l) step) replays one, tt)
-
--- one step more, made or refused
-pub over_step : {T E : Type 0} {R : List ℕ → ℕ → ℕ → Type 0} {old mid new : Option History} {step : Step} (r : Result T E) (words : List ℕ) → StoresOver R old mid → AddsStep r step mid new → IfSome mid (λ h. words ≡ reads h) → StoresOnly (R words) step
-    → StoresOver R old new
-over_step {R = R} {mid = mid} {step = step} (Ok done) words over adds replays one =
-    over_then over (record { added = step ∷ []; goes_on = adds.ok; each = if_one R mid words step replays one })
-over_step {R = R} {old = old} (Err error) words over adds replays one = subst (StoresOver R old) (sym adds.err) over

@@ -10,9 +10,8 @@ use Rattle.ct_pm.proofs.Quiet.{back_flushed, quiet_then, quiet_settled}
 use Rattle.ct_pm.proofs.Fence.{settled_by_fence}
 use Rattle.ct_pm.proofs.Made.{makes_then, makes_weaker}
 use Rattle.ct_pm.proofs.OneWord.{Replays}
-use Rattle.ct_base.specs.Settled.{HasFewPairs, HasPages, Pair, with_pairs, pairs_at, pairs_behind, open_pairs, HaveTargets, IsRecord}
+use Rattle.ct_base.specs.Settled.{Gives, HasFewPairs, HasPages, HaveTargets, IsRecord, Named, open_pairs, Pair, pairs_at, pairs_behind, with_pairs}
 use Rattle.ct_record.specs.Record.{SettlesTo, IsOpen, OpensOnly, Stand, IsPlace, AreApplied, SharesLine, StaysInLine}
-use Rattle.ct_base.specs.Settled.{Named, Gives}
 use Rattle.ct_image.proofs.Pairs.{length-with_pairs, with_pairs_off, with_pairs_twice, is_named, named_at, named_target, named_here, named_more, gives_here}
 use Rattle.ct_record.proofs.Lawful.{few_alike, moved_few}
 use Rattle.ct_record.proofs.Opens.{moved_opens}
@@ -150,9 +149,6 @@ module _ {from count : ℕ} {words : List ℕ} (place : IsPlace from count words
   apply_line made =
       makes_weaker StaysInLine (λ word value gives inside.
       absurd (omega (arith, inside.1, (named_target from count words word place.targets (gives_named (pairs_at from count words) word value gives)).0))) made
-
-  pub applied_open : (new : List ℕ) → new ≡ with_pairs (pairs_at from count words) words → new ≡ with_pairs (open_pairs words) words
-  applied_open new all = all ∙ ap (λ (ps : List Pair). with_pairs ps words) place.pairs
 
   pub applied_some : (new : List ℕ) → AreApplied from count words new → (k : ℕ) × (new ≡ with_pairs (drop k (open_pairs words)) words)
   applied_some new some =

@@ -179,9 +179,6 @@ module _ {count end : ℕ} {words : List ℕ} (full : IsFull 520 count end words
   pub short_reads : IsArmed (pairs_at 520 count words) words (set words 527 count)
   short_reads = short_armed words (same_refl words) (λ word is. refl)
 
-  pub short_reads_few : HasFewPairs count (set words 527 count)
-  short_reads_few = short_few words (same_refl words) (λ word is. refl)
-
   -- after the flush a fence leaves nothing pending
   pub short_fenced : {S F T E : Type 0} {put : Result S F} {r : Result T E} {old mid next last new : Option History} {done : S} (now : List ℕ) → EachNow old (SameOff (IsTouched end) words) → QuietOff (λ _. ⊥) old mid → Replays mid words
       → now ≡ set words 527 count → Replays last now → AddsStep put (Store 527 count) mid next → AddsStep {T = S} {E = F} (Ok done) (Flush 65) next last

@@ -2,7 +2,6 @@
 use Rattle.std.proofs.Common.{◌≡◌, ◌⊎◌, ℕ, ◌<◌, List, set, sym, ◌∙◌, subst, inl, inr, arith}
 use Rattle.std.specs.Prelude.{slice_index}
 use Rattle.std.proofs.lemmas.List.{get_or-set_same, get_or-set_other}
-use Rattle.ct_pm.specs.Device.{SameOff}
 use Rattle.ct_pm.proofs.Quiet.{same_off_set}
 use Rattle.ct_base.specs.Settled.{HasFewPairs, HasPages, IsShut, IsRecord}
 use Rattle.ct_record.specs.Record.{InRecord, SettlesTo, Stand}
@@ -26,8 +25,3 @@ close_moves gate words inside shut stand image (inr is) =
 pub close_lawful : (gate : ℕ) (words : List ℕ) → IsRecord words → IsShut (set words gate 0) → (image : List ℕ) → (image ≡ words) ⊎ (image ≡ set words gate 0) → HasFewPairs (slice_index words 512) image
 close_lawful gate words was shut image (inl is) = subst (HasFewPairs (slice_index words 512)) (sym is) (few_here words was)
 close_lawful gate words was shut image (inr is) = subst (HasFewPairs (slice_index words 512)) (sym is) (shut_few (slice_index words 512) (set words gate 0) shut)
-
--- both outcomes of a commit to a gate
-pub close_same : (gate : ℕ) (words new : List ℕ) → InRecord gate → (new ≡ words) ⊎ (new ≡ set words gate 0) → SameOff InRecord new words
-close_same gate words new inside (inl is) = subst (λ l. SameOff InRecord l words) (sym is) (same_refl words)
-close_same gate words new inside (inr is) = subst (λ l. SameOff InRecord l words) (sym is) (same_off_set InRecord words words gate 0 inside (same_refl words))

@@ -1,9 +1,8 @@
 -- Pairs are stored again elsewhere.
-use Rattle.std.proofs.Common.{◌≡◌, ℕ, ◌+◌, ◌*◌, ◌<◌, zero, suc, List, ◌∷◌, refl, ◌∙◌, sym, ap, ap₂, inl, inr, arith}
+use Rattle.std.proofs.Common.{◌≡◌, ℕ, ◌+◌, ◌*◌, ◌<◌, List, ◌∷◌, ◌∙◌, sym, ap, ap₂, inl, inr, arith}
 use Rattle.std.specs.Prelude.{slice_index}
 use Rattle.std.proofs.lemmas.Bool.{cases_eq}
 use Rattle.ct_pm.specs.Device.{SameOff, IsIn}
-use Rattle.ct_base.specs.Settled.{Pair, pairs_at}
 use Rattle.ct_record.proofs.Settles.{same_then, same_wider}
 
 -- the first k pairs stand again
@@ -27,11 +26,3 @@ copied_one k named put was words new few so_far first second third fourth same =
       ];
       same = same_then (same_wider (λ word inside. (omega (arith, inside.0), omega (arith, inside.1))) same) so_far.same;
     }
-
--- so the pairs are the same
-pub pairs_copied : (k : ℕ) (was words : List ℕ) → ((j : ℕ) → j < k → slice_index words (528 + 2 * j) ≡ slice_index was (520 + 2 * j)) → ((j : ℕ) → j < k → slice_index words (528 + 2 * j + 1) ≡ slice_index was (520 + 2 * j + 1))
-    → pairs_at 528 k words ≡ pairs_at 520 k was
-pairs_copied zero was words word value = refl
-pairs_copied (suc k) was words word value =
-    ap₂ (λ (p : Pair) (ps : List Pair). p ∷ ps) (ap₂ (λ (w v : ℕ). record { word = w; value = v }) (word k (omega arith)) (value k (omega arith)))
-    (pairs_copied k was words (λ j below. word j (omega arith)) (λ j below. value j (omega arith)))

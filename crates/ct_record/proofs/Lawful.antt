@@ -3,8 +3,8 @@ use Rattle.std.proofs.Common.{◌≡◌, ℕ, ◌+◌, ◌*◌, ◌<◌, ◌≤�
 use Rattle.std.specs.Prelude.{slice_index}
 use Rattle.ct_base.specs.Settled.{Pair, Named, with_pairs, open_pairs, cleared, settled, HasFewPairs, IsRecord, IsShut}
 use Rattle.ct_pm.specs.Device.{SameOff}
-use Rattle.ct_record.specs.Record.{AreApart, KeepsHead, SettlesTo, SettlesToEither}
-use Rattle.ct_image.proofs.Pairs.{length-with_pairs, with_pairs_off}
+use Rattle.ct_record.specs.Record.{AreApart, KeepsHead, SettlesTo}
+use Rattle.ct_image.proofs.Pairs.{with_pairs_off}
 use Rattle.ct_record.proofs.Settles.{cleared_in, length-settled, open_target}
 
 -- a closed record has no pairs
@@ -67,22 +67,7 @@ settles_head words image is was settles = record {
   head = λ word low. sym (settled_head image was word low) ∙ settles.others word (λ inside. omega (arith, inside.0)) ∙ settled_head words is word low;
 }
 
-head_then : {was words image : List ℕ} → KeepsHead was words → KeepsHead words image → KeepsHead was image
-head_then one two = record { size = two.size ∙ one.size; head = λ word low. two.head word low ∙ one.head word low }
-
-pairs_head : (pairs : List Pair) (words : List ℕ) → AreApart pairs → KeepsHead words (with_pairs pairs words)
-pairs_head pairs words apart = record {
-  size = length-with_pairs pairs words;
-  head = λ word low. with_pairs_off pairs words word (λ named. omega (arith, low, apart word named));
-}
-
 -- pairs off the record leave both gates closed
 pub pairs_shut : (pairs : List Pair) (words : List ℕ) → AreApart pairs → IsShut words → IsShut (with_pairs pairs words)
 pairs_shut pairs words apart shut =
     (with_pairs_off pairs words 512 (λ named. omega (arith, apart 512 named)) ∙ shut.0, with_pairs_off pairs words 527 (λ named. omega (arith, apart 527 named)) ∙ shut.1)
-
-pub either_head : (pairs : List Pair) (words image : List ℕ) → AreApart pairs → IsShut words → IsRecord image → SettlesToEither pairs words image → KeepsHead words image
-either_head pairs words image apart shut was (inl none) = settles_head words image (shut_few 0 words shut).lawful was none
-either_head pairs words image apart shut was (inr all) =
-    let applied = with_pairs pairs words in
-    head_then (pairs_head pairs words apart) (settles_head applied image (shut_few 0 applied (pairs_shut pairs words apart shut)).lawful was all)

@@ -1,13 +1,13 @@
 -- What holds of each image of a device.
 use Rattle.std.proofs.Common.{◌≡◌, ◌⊎◌, ℕ, ◌<◌, List, Option, Some, None, Result, Ok, Err, length, set, sym, ◌∙◌, subst, inr}
-use Rattle.std.specs.Prelude.{IfOk, IfErr, OnOk, OnErr}
+use Rattle.std.specs.Prelude.{OnOk, OnErr}
 use Rattle.ct_pm.specs.declared.step.Step.TheVariants.{Store}
 use Rattle.ct_pm.specs.Images.{History}
 use Rattle.ct_pm.specs.Device.{AddsStep, EachNow, LeavesOnly, NothingPending, SameOff, QuietOff}
 use Rattle.ct_pm.proofs.Told.{weaker}
-use Rattle.ct_pm.proofs.Quiet.{same_off_set, quiet_here, quiet_store, quiet_then, each_now_kept}
+use Rattle.ct_pm.proofs.Quiet.{quiet_here, quiet_store, quiet_then, each_now_kept}
 use Rattle.ct_pm.proofs.OneWord.{Replays, on_device}
-use Rattle.ct_record.proofs.Settles.{same_refl, same_sym, same_then, same_wider}
+use Rattle.ct_record.proofs.Settles.{same_sym, same_then, same_wider}
 
 -- what holds of each image now, and does not look at the words that move, holds of each image of a quiet stretch
 pub quiet_keeps : {old new : Option History} {Moved : ℕ → Type 0} (P : List ℕ → Type 0) → ((image base : List ℕ) → SameOff Moved image base → P base → P image)
@@ -26,11 +26,6 @@ images_kept {old = old} {More = More} Moved was words within same now run =
     each_now_kept (SameOff Moved words) (λ image base moved is. same_then is (same_sym (same_wider within moved)))
     (now_of old (SameOff Moved words) (SameOff Moved was) (λ image is. same_then (same_wider within same) is) now) run
 
--- a store, made or refused, changes its word alone
-pub store_same : {T E : Type 0} (Moved : ℕ → Type 0) (r : Result T E) (old new : List ℕ) (word value : ℕ) → OnOk r (new ≡ set old word value) → OnErr r (new ≡ old) → Moved word → SameOff Moved new old
-store_same Moved (Ok done) old new word value ok err moved = subst (λ l. SameOff Moved l old) (sym ok) (same_off_set Moved old old word value moved (same_refl old))
-store_same Moved (Err error) old new word value ok err moved = subst (λ l. SameOff Moved l old) (sym err) (same_refl old)
-
 -- a stretch that is quiet off few words is quiet off more
 pub quiet_wider : {old new : Option History} {More : ℕ → Type 0} (Moved : ℕ → Type 0) → ((word : ℕ) → More word → Moved word) → QuietOff More old new → QuietOff Moved old new
 quiet_wider {old = old} Moved within run = quiet_then Moved within (quiet_here Moved old) run
@@ -41,22 +36,10 @@ pub two_stores_quiet : {S F T E : Type 0} {one : Result S F} {two : Result T E} 
 two_stores_quiet {old = old} {mid = mid} {a = a} {b = b} Moved was words replays more within fits moved also first second =
     quiet_store Moved (quiet_store Moved (quiet_here Moved old) first (on_device old was a replays within) moved) second (on_device mid words b more fits) also
 
-pub two_stores_same : {T E : Type 0} (two : Result T E) (a b v w : ℕ) (Moved : ℕ → Type 0) (was mid words : List ℕ) → mid ≡ set was a v → OnOk two (words ≡ set mid b w) → OnErr two (words ≡ mid) → Moved a → Moved b → SameOff Moved words was
-two_stores_same two a b v w Moved was mid words first second err moved also =
-    same_then (store_same Moved two mid words b w second err also) (subst (λ l. SameOff Moved l was) (sym first) (same_off_set Moved was was a v moved (same_refl was)))
-
 -- where nothing is pending, each image is the words
 pub each_settled : (told : Option History) (words : List ℕ) (P : List ℕ → Type 0) → Replays told words → NothingPending told → P words → EachNow told P
 each_settled None words P replays settled p = tt
 each_settled (Some h) words P replays settled p = λ image allowed. subst P (replays ∙ sym (settled image allowed)) p
-
-pub ok_weaker : {T E : Type 0} {P Q : T → Type 0} (r : Result T E) → ((x : T) → P x → Q x) → IfOk r P → IfOk r Q
-ok_weaker (Ok x) step p = step x p
-ok_weaker (Err e) step p = tt
-
-pub err_weaker : {T E : Type 0} {P Q : E → Type 0} (r : Result T E) → ((x : E) → P x → Q x) → IfErr r P → IfErr r Q
-err_weaker (Ok x) step p = tt
-err_weaker (Err e) step p = step e p
 
 -- a commit made or refused
 pub either_commit : {T E : Type 0} (r : Result T E) (old new : List ℕ) (word value : ℕ) → OnOk r (new ≡ set old word value) → OnErr r ((new ≡ old) ⊎ (new ≡ set old word value)) → (new ≡ old) ⊎ (new ≡ set old word value)

@@ -1,7 +1,6 @@
 -- What an image settles to.
 use Rattle.std.proofs.Common.{◌≡◌, ◌⊎◌, ℕ, ◌≤◌, zero, suc, List, [], length, refl, sym, ◌∙◌, ap₂, subst, inl, inr, arith}
 use Rattle.std.specs.Prelude.{slice_index}
-use Rattle.std.proofs.lemmas.Bool.{cases_lt}
 use Rattle.ct_pm.specs.Device.{SameOff}
 use Rattle.ct_base.specs.Settled.{Pair, with_pairs, pairs_behind, open_pairs, cleared, settled, IsTarget, HaveTargets, IsShut, IsRecord}
 use Rattle.ct_record.specs.Record.{InRecord, SettlesTo, Stand, IsStaging}
@@ -19,12 +18,6 @@ same_then one two = record { size = one.size ∙ two.size; others = λ word off.
 
 pub same_wider : {Moved More : ℕ → Type 0} {a b : List ℕ} → ((word : ℕ) → Moved word → More word) → SameOff Moved a b → SameOff More a b
 same_wider within same = record { size = same.size; others = λ word off. same.others word (λ moved. off (within word moved)) }
-
-pub in_record : (word : ℕ) → InRecord word ⊎ (InRecord word → ⊥)
-in_record word = elim (cases_lt word 512) [
-  | inl below ↦ inr (λ is. omega (arith, is.0))
-  | inr from ↦ elim (cases_lt word 16896) [ inl within ↦ inl (from, within) | inr past ↦ inr (λ is. omega (arith, is.1)) ]
-]
 
 -- an open record
 behind_alike : (long short : ℕ) (a b : List ℕ) → long ≤ 8184 → short ≤ 3 → ((word : ℕ) → InRecord word → slice_index a word ≡ slice_index b word) → pairs_behind long short a ≡ pairs_behind long short b

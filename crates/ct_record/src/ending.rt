@@ -2,10 +2,10 @@ ghost use Rattle.std.specs.Prelude.{◌≡◌, ◌<◌, ◌≤◌, ℕ, List, On
 ghost use Rattle.std.specs.declared.option.Option.{Option};
 ghost use Rattle.ct_base.specs.Causes.{HasCause};
 ghost use Rattle.ct_base.specs.Settled.{Pair, with_pairs};
-ghost use Rattle.ct_pm.specs.Device.{SameOff};
+ghost use Rattle.ct_pm.specs.Device.{MakesOnly, SameOff};
 ghost use Rattle.ct_pm.specs.Images.{History};
-ghost use Rattle.ct_record.specs.Record.{Concluded, InRecord, IsDrafted};
-ghost use Rattle.ct_record.specs.Seen.{count_of, device_behind, faults_under, pairs_of, told_under, words_under};
+ghost use Rattle.ct_record.specs.Record.{Concluded, InRecord, IsDrafted, StaysInLine};
+ghost use Rattle.ct_record.specs.Seen.{IsShort, count_of, device_behind, faults_under, pairs_of, told_under, words_under};
 
 use crate::{Broken, Draft, complete};
 use ct_pm::{Pm, PmFault};
@@ -25,6 +25,9 @@ pub fn conclude<D: Pm>(draft: Draft<D>, drafted: Result<(), PmFault>) -> Result<
         → OnOk drafted ((pairs_of draft ≡ pairs) × (count_of draft ≤ most))
         → Concluded was start pairs most (D.words (device_behind result)) (D.told (device_behind result)) result }
     ensures cause { (before : ℕ) → HasCause before (faults_under draft) drafted → HasCause before (D.faults (device_behind result)) result }
+
+    // Where no fourth pair was begun, no word of pages 1 to 32 is stored but those of the short record.
+    ensures in_line { IsShort draft → MakesOnly StaysInLine (told_under draft) (D.told (device_behind result)) }
 {
     match drafted {
         Ok(()) => {}

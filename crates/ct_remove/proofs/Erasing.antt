@@ -19,7 +19,7 @@ use Rattle.ct_inode.specs.Drafted.{inode_words}
 use Rattle.ct_inode.proofs.Rewritten.{view_inside, view_outside}
 use Rattle.ct_parts.proofs.Lists.{base-is}
 use Rattle.ct_parts.proofs.Live.{live_stand}
-use Rattle.ct_call.proofs.FilePages.{base_whole, room_of}
+use Rattle.ct_commit.proofs.Pages.{base_whole, room_of}
 use Rattle.ct_state.proofs.Owners.{owner_one}
 use Rattle.ct_remove.specs.Asked.{IsAsked}
 use Rattle.ct_remove.specs.Erased.{Erases, Removes, no_inode}

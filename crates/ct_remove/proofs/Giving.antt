@@ -10,7 +10,7 @@ use Rattle.ct_cut.specs.GivenUp.{CanGiveUp}
 use Rattle.ct_dir.proofs.Held.{used_there}
 use Rattle.ct_dir.specs.Directory.{dir_of}
 use Rattle.ct_base.specs.Slots.{IsSlot}
-use Rattle.ct_grow.proofs.Carried.{off_record}
+use Rattle.ct_commit.proofs.States.{off_record}
 use Rattle.ct_image.proofs.Beside.{Beside, beside_cells}
 use Rattle.ct_inode.proofs.Loaded.{kind_none}
 use Rattle.ct_pm.specs.Device.{IsIn, SameOff}
@@ -18,7 +18,7 @@ use Rattle.ct_record.specs.Record.{InRecord}
 use Rattle.ct_record.proofs.Under.{under_beside}
 use Rattle.ct_state.proofs.Settle.{alike_off}
 use Rattle.ct_swap.specs.Swap.{LeaveTables}
-use Rattle.ct_call.proofs.FilePages.{base_whole, word_page}
+use Rattle.ct_commit.proofs.Pages.{base_whole, word_page}
 use Rattle.ct_remove.specs.Asked.{IsAsked}
 use Rattle.ct_remove.specs.Erased.{IsErased}
 use Rattle.ct_remove.proofs.Asked.{dir_live, dir_object, dir_room, few, object_live}

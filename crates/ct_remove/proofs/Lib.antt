@@ -1,13 +1,9 @@
 pub mod Asked
 pub mod Drafting
 pub mod Erasing
-pub mod Finding
-pub mod Fitting
 pub mod Giving
 pub mod Planned
 pub mod Recording
 pub mod Removing
-pub mod Rooted
 pub mod Sparing
-pub mod Turning
 pub mod Whole

@@ -23,25 +23,25 @@ use Rattle.ct_state.proofs.Resolve.{leads_once}
 use Rattle.ct_tree.specs.Checks.{names}
 use Rattle.ct_tree.specs.Lands.{Lands, files}
 use Rattle.ct_tree.specs.Need.{IsAt, NeedsRoomIn}
-use Rattle.ct_tree.specs.Runs.{MakesNode, WantsSpace}
+use Rattle.ct_tree.specs.Runs.{MakesNode}
 use Rattle.ct_tree.specs.Step.{refusal}
 use Rattle.ct_tree.specs.Tree.{Tree}
-use Rattle.ct_call.proofs.Landed.{lands_on}
+use Rattle.ct_commit.proofs.Landed.{lands_on}
 use Rattle.ct_call.proofs.Pairs.{least_pairs}
 use Rattle.ct_call.proofs.Spaced.{only_need}
 use Rattle.ct_call.specs.Answers.{HasOnlyPlan, LacksInode}
-use Rattle.ct_call.specs.Calls.{StandsFor, after, most_pairs}
-use Rattle.ct_call.specs.Mounted.{IsAtRest}
+use Rattle.ct_call.specs.Calls.{IsChange, StandsFor, after, most_pairs}
+use Rattle.ct_commit.specs.Rest.{IsAtRest}
 use Rattle.ct_call.specs.Placed.{EntersAt, Places}
 use Rattle.ct_call.specs.Plans.{IsGrowth, Plans, level_of}
 use Rattle.ct_call.specs.declared.plan.CallPlan.{CallPlan}
 use Rattle.ct_call.specs.declared.plan.Growth.TheVariants.{Stays}
-use Rattle.ct_enter.specs.declared.create.Kind.{Kind}
-use Rattle.ct_enter.specs.declared.create.Kind.TheVariants.{File as file, Directory as directory}
-use Rattle.ct_remove.specs.Found.{IsEntryAt, IsLeaf}
-use Rattle.ct_remove.specs.Leaves.{leave_op}
+use Rattle.ct_find.specs.declared.kind.Kind.{Kind}
+use Rattle.ct_find.specs.declared.kind.Kind.TheVariants.{File as file, Directory as directory}
+use Rattle.ct_find.specs.Entries.{IsEntryAt, IsLeaf}
+use Rattle.ct_find.specs.Kinds.{leave_op}
 use Rattle.ct_remove.specs.Removed.{RemovedOrNot, removed}
-use Rattle.ct_remove.specs.declared.find.Entry.{Entry}
+use Rattle.ct_find.specs.declared.entry.Entry.{Entry}
 use Rattle.ct_remove.proofs.Asked.{dir_object, object_live}
 use Rattle.ct_remove.proofs.Whole.{rest_asked}
 
@@ -52,9 +52,9 @@ makes_none directory path made = made
 pub lacks_none : (w : List ℕ) (kind : Kind) (path : List ℕ) → ¬ LacksInode w (leave_op kind path)
 lacks_none w kind path lacks = makes_none kind path lacks.0
 
-pub spends : (kind : Kind) (path : List ℕ) → WantsSpace (leave_op kind path)
-spends file path = tt
-spends directory path = tt
+pub changes : (kind : Kind) (path : List ℕ) → IsChange (leave_op kind path)
+changes file path = tt
+changes directory path = tt
 
 -- the plan by its definition
 abbrev pub plan_for : List ℕ → ℕ → Plan

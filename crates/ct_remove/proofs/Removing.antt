@@ -1,34 +1,31 @@
 -- The rules and the objects once an entry is gone with its object.
 use Rattle.std.proofs.Common.{◌≡◌, ◌≢◌, ℕ, ◌+◌, ◌*◌, ◌^◌, ◌<◌, ◌≤◌, ◌⊎◌, List, [], ◌∷◌, ◌++◌, refl, sym, ap, subst, ◌∙◌, inl, inr, arith}
 use Rattle.std.proofs.lemmas.Bool.{cases_eq, cases_lt}
-use Rattle.ct_base.specs.Head.{HasHead}
 use Rattle.ct_base.specs.Inode.{IsNumber, inode, inode_word, part_bytes}
 use Rattle.ct_base.specs.Objects.{Object, object, objects}
-use Rattle.ct_base.specs.Rules.{ArePlaced, IsInode, IsMappedInParts, Owns, Sound, entries, once, inodes, placed, apart, tails, mapped, headers, rest, slots, names, named, reached}
+use Rattle.ct_base.specs.Rules.{IsInode, IsMappedInParts, Owns, Sound, entries, once, inodes, placed, apart, tails, mapped, headers, rest, slots, names, named, reached}
 use Rattle.ct_base.specs.Settled.{IsShut}
 use Rattle.ct_base.specs.Slots.{IsSlot, slot_name}
 use Rattle.ct_base.specs.View.{view, inode_count}
-use Rattle.ct_call.proofs.FilePages.{room_of}
-use Rattle.ct_record.proofs.Lawful.{shut_few}
+use Rattle.ct_commit.proofs.Pages.{room_of}
+use Rattle.ct_commit.proofs.States.{head_over}
 use Rattle.ct_state.specs.Alike.{IsWhole}
 use Rattle.ct_state.specs.Edits.{HasTail}
 use Rattle.ct_state.specs.Forest.{Entered, OneTree}
 use Rattle.ct_state.proofs.Added.{forest_rules, sound_forest}
 use Rattle.ct_state.proofs.Addressed.{Empties, object_tail, removed_objects}
 use Rattle.ct_state.proofs.Bytes.{SameObject, content-at, little-same, little-zero}
-use Rattle.ct_state.proofs.Carry.{files-same, sound-same}
 use Rattle.ct_state.proofs.Changes.{entered}
 use Rattle.ct_state.proofs.Landing.{sound_stands}
 use Rattle.ct_state.proofs.Passes.{IsBare}
 use Rattle.ct_state.proofs.Rebuilt.{Vacates, vacated_mapped, vacated_space}
 use Rattle.ct_state.proofs.Removes.{removed as forest_removed}
-use Rattle.ct_state.proofs.Shut.{shut_alike, shut_whole}
 use Rattle.ct_state.proofs.Write.{HasSpace}
 use Rattle.ct_tree.specs.Lands.{files}
 use Rattle.ct_tree.specs.Stands.{Stands}
 use Rattle.ct_tree.specs.Tree.{Tree, File, Dir, none, entry}
-use Rattle.ct_call.specs.Landing.{LandsAs}
-use Rattle.ct_remove.specs.Asked.{IsAsked, IsSettled}
+use Rattle.ct_remove.specs.Asked.{IsAsked}
+use Rattle.ct_commit.specs.Rest.{IsAtRest}
 use Rattle.ct_remove.specs.Erased.{Removes}
 use Rattle.ct_remove.specs.Removed.{removed}
 use Rattle.ct_remove.proofs.Asked.{below_root, dir_live, dir_object, dir_other, dir_owns, dir_room, few, inside_or, object_live, slot_ends}
@@ -190,9 +187,6 @@ module _ {w new : List ℕ} {dir offset number : ℕ} (a : IsAsked w dir offset 
   pub removed_space : HasSpace (view new) (inode_count new)
   removed_space = on HasSpace (vacated_space vacates)
 
-  pub removed_placed : ArePlaced (view new) (inode_count new)
-  removed_placed = removed_space.placed
-
   pub removed_sound : Sound new
   removed_sound entries = λ d x j ld lt seen. r.tables.entries d x j ld lt
   removed_sound once = λ d x e y ld lf seen seen'. r.tables.once d x e y ld lf
@@ -208,27 +202,5 @@ module _ {w new : List ℕ} {dir offset number : ℕ} (a : IsAsked w dir offset 
   removed_sound named = (forest_rules new one_tree.0 one_tree.1).2
   removed_sound reached = (forest_rules new one_tree.0 one_tree.1).3
 
-  head_now : IsShut new → HasHead new
-  head_now shut =
-      let h = a.rest.head in
-      let pages = r.head 2 (omega arith) in
-      record {
-        pages = (omega (arith, h.pages.0, r.size), omega (arith, h.pages.1, r.size));
-        magic = r.head 0 (omega arith) ∙ h.magic;
-        version = r.head 1 (omega arith) ∙ h.version;
-        count = (omega (arith, h.count.0, pages), omega (arith, h.count.1, pages, r.size));
-        inodes = (omega (arith, h.inodes.0, r.head 3 (omega arith)), omega (arith, h.inodes.1, r.head 3 (omega arith)));
-        spare = λ k four lt. r.head k lt ∙ h.spare k four lt;
-        recorded = (shut_few 0 new shut).lawful;
-      }
-
-  pub removed_settled : IsShut new → IsSettled new
-  removed_settled shut = record { head = head_now shut; sound = removed_sound; shut = shut; tables = r.tables }
-
-  -- whatever is staged
-  pub removed_lands : IsShut new → LandsAs (removed (files w) dir offset number) new
-  removed_lands shut = record {
-    head = head_now shut;
-    sound = sound-same (shut_alike shut removed_whole) (shut_whole shut removed_whole) removed_sound;
-    objects = files-same (shut_alike shut removed_whole) ∙ files_are;
-  }
+  pub removed_settled : IsShut new → IsAtRest new
+  removed_settled shut = record { head = head_over a.rest.head r.head r.size shut; sound = removed_sound; shut = shut; tables = r.tables }

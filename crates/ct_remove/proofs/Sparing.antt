@@ -6,7 +6,7 @@ use Rattle.ct_base.specs.Rules.{apart, Owns, part_of}
 use Rattle.ct_base.specs.View.{view, inode_count}
 use Rattle.ct_base.specs.Walk.{word}
 use Rattle.ct_image.proofs.Steps.{walk-cell}
-use Rattle.ct_call.proofs.FilePages.{base_whole, file_cell, high_in, room_of}
+use Rattle.ct_commit.proofs.Pages.{base_whole, file_cell, high_in, room_of}
 use Rattle.ct_remove.specs.Asked.{IsAsked}
 use Rattle.ct_remove.specs.Erased.{IsErased, IsGone, Removes}
 use Rattle.ct_remove.proofs.Asked.{dir_kind, dir_owns, dir_room, few, object_live, slot_ends}

@@ -1,5 +1,3 @@
 pub mod Asked
 pub mod Erased
-pub mod Found
-pub mod Leaves
 pub mod Removed

@@ -2,7 +2,7 @@
 use Rattle.std.specs.Prelude.{◌⊎◌, ℕ, List}
 use Rattle.ct_base.specs.Objects.{Object}
 use Rattle.ct_state.specs.Edits.{detach, discard}
-use Rattle.ct_call.specs.Landing.{LandsAs}
+use Rattle.ct_commit.specs.Landing.{LandsAs}
 
 -- the slot at an offset of directory dir is empty, and object i is gone
 abbrev pub removed : (ℕ → Object) → ℕ → ℕ → ℕ → ℕ → Object

@@ -7,24 +7,21 @@ ghost use Rattle.ct_base.specs.View.{view};
 ghost use Rattle.ct_base.specs.Wants.{missing};
 ghost use Rattle.ct_call.specs.Answers.{IsPrepared};
 ghost use Rattle.ct_call.specs.Calls.{Does, StandsFor};
-ghost use Rattle.ct_call.specs.Mounted.{IsAtRest};
+ghost use Rattle.ct_commit.specs.Rest.{IsMounted};
 ghost use Rattle.ct_call.specs.Placed.{Places};
 ghost use Rattle.ct_call.specs.Seen.{ready_in};
-ghost use Rattle.ct_frames.specs.Agrees.{Agrees};
 ghost use Rattle.ct_tree.specs.Lands.{files};
 ghost use Rattle.ct_tree.specs.Tree.{Tree};
-ghost use Rattle.ct_remove.specs.Found.{IsEntryAt, IsLeaf};
-ghost use Rattle.ct_remove.specs.Leaves.{leave_op};
+ghost use Rattle.ct_find.specs.Entries.{IsEntryAt, IsLeaf};
+ghost use Rattle.ct_find.specs.Kinds.{leave_op};
 
-use crate::find::{Entry, find_leaf};
 use crate::plan::removal_plan;
 use crate::remove::remove;
 use ct_base::Inode;
-use ct_call::{Failed, FsError, Mounted, State, check_space};
-use ct_enter::Kind;
+use ct_call::{FsError, Mounted, State, check_space, ended, refused};
+use ct_find::{Entry, Kind, find_leaf};
 use ct_frames::Frames;
 use ct_pm::Pm;
-use ct_record::Broken;
 use ct_tree::Refusal;
 
 // The entry that goes, and its object, where there is space for that. Nothing is stored.
@@ -34,8 +31,7 @@ fn prepare<D: Pm>(
     path: &[u8],
     kind: Kind,
 ) -> Result<(Entry, Inode), Refusal>
-    requires rest { IsAtRest (D.words dev.now) }
-    requires agrees { Agrees (D.words dev.now) frames.now }
+    requires mounted { IsMounted (D.words dev.now) (D.told dev.now) frames.now }
     ensures answer { (t : Tree) → StandsFor (D.words dev.now) t → IsPrepared (D.words dev.now) t (leave_op kind path.now) result }
     ensures entry { IfOk result (λ found. IsEntryAt (D.words dev.now) path.now found.0) }
     ensures leaf { IfOk result (λ found. IsLeaf (files (D.words dev.now)) found.0.dir found.0.offset found.0.number) }
@@ -67,22 +63,8 @@ pub fn remove_in<D: Pm>(
     let Mounted { dev, mut frames } = mounted;
     let (entry, inode) = match prepare(&dev, &frames, path, kind) {
         Ok(found) => found,
-        Err(refusal) => {
-            return (
-                State::Ready(Mounted { dev, frames }),
-                Err(FsError::Refused(refusal)),
-            );
-        }
+        Err(refusal) => return refused(dev, frames, refusal),
     };
-    match remove(dev, &mut frames, entry, inode) {
-        Ok(dev) => {
-            // Not the count is wanted, but what its contract says: the free pages are a list that can be counted.
-            let _ = frames.free();
-            (State::Ready(Mounted { dev, frames }), Ok(()))
-        }
-        Err(broken) => {
-            let Broken { dev } = broken;
-            (State::Dead(Failed { dev }), Err(FsError::Fault))
-        }
-    }
+    let carried = remove(dev, &mut frames, entry, inode);
+    ended(carried, frames)
 }

@@ -14,10 +14,10 @@ ghost use Rattle.ct_words.specs.Drafted.{MapsAlike};
 ghost use Rattle.ct_remove.specs.Asked.{IsAsked};
 ghost use Rattle.ct_remove.specs.Erased.{Erases, IsErased, IsGone, Removes};
 
-use crate::find::Entry;
 use ct_base::{ENTRY_WORDS, INODE_BYTES, Inode, MOST_INODES, NO_PARTITION, PAGE_BYTES};
 use ct_cut::give_up;
 use ct_dir::clear;
+use ct_find::Entry;
 use ct_inode::put;
 use ct_pm::{Pm, PmFault};
 use ct_record::Draft;

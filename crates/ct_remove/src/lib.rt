@@ -6,12 +6,10 @@
 
 mod call;
 mod draft;
-mod find;
 mod plan;
 mod record;
 mod remove;
 
 pub use call::remove_in;
 pub use draft::{MOST_REMOVAL_PAIRS, draft_removal};
-pub use find::{Entry, check_kind, find_entry};
 pub use plan::removal_plan;

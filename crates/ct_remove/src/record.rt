@@ -14,8 +14,8 @@ ghost use Rattle.ct_remove.specs.Erased.{Removes};
 ghost use Rattle.ct_remove.specs.Removed.{RemovedOrNot};
 
 use crate::draft::{MOST_REMOVAL_PAIRS, draft_removal};
-use crate::find::Entry;
 use ct_base::NO_PARTITION;
+use ct_find::Entry;
 use ct_inode::get;
 use ct_pm::Pm;
 use ct_record::{Broken, Draft, Idle, conclude};

@@ -5,20 +5,18 @@ ghost use Rattle.ct_base.specs.Inode.{inode as inode_at};
 ghost use Rattle.ct_base.specs.Plan.{give_up_wants};
 ghost use Rattle.ct_base.specs.View.{inode_count, view};
 ghost use Rattle.ct_base.specs.Wants.{missing};
-ghost use Rattle.ct_call.specs.Mounted.{IsAtRest};
-ghost use Rattle.ct_frames.specs.Agrees.{Agrees};
-ghost use Rattle.ct_pm.specs.Device.{NothingPending};
+ghost use Rattle.ct_commit.specs.Rest.{IsMounted};
 ghost use Rattle.ct_pm.specs.Phase.{Phase};
 ghost use Rattle.ct_record.specs.Seen.{device_behind};
 ghost use Rattle.ct_tree.specs.Lands.{files};
-ghost use Rattle.ct_remove.specs.Found.{IsLeaf};
+ghost use Rattle.ct_find.specs.Entries.{IsLeaf};
 ghost use Rattle.ct_remove.specs.Removed.{RemovedOrNot, removed};
 
 use crate::draft::MOST_REMOVAL_PAIRS;
-use crate::find::Entry;
 use crate::record::remove_now;
 use ct_base::{Inode, NO_PARTITION, STAGING_SLOT};
 use ct_cut::prepare_whole;
+use ct_find::Entry;
 use ct_frames::Frames;
 use ct_pm::Pm;
 use ct_record::Broken;
@@ -32,9 +30,7 @@ fn remove_whole<D: Pm>(
     entry: Entry,
     level: u64,
 ) -> Result<D, Broken<D>>
-    requires rest { IsAtRest (D.words dev) }
-    requires agrees { Agrees (D.words dev) frames.old }
-    requires settled { NothingPending (D.told dev) }
+    requires mounted { IsMounted (D.words dev) (D.told dev) frames.old }
     requires leaf { IsLeaf (files (D.words dev)) entry.dir entry.offset entry.number }
     requires level { (inode_at (view (D.words dev)) entry.number).level ≡ level }
     requires has { level ≢ NO_PARTITION }
@@ -42,9 +38,7 @@ fn remove_whole<D: Pm>(
 
     ensures objects { OnOk result (files (D.words (device_behind result)) ≡ removed (files (D.words dev)) entry.dir entry.offset entry.number) }
     ensures counted { OnOk result (inode_count (D.words (device_behind result)) ≡ inode_count (D.words dev)) }
-    ensures rest { OnOk result (IsAtRest (D.words (device_behind result))) }
-    ensures agrees { OnOk result (Agrees (D.words (device_behind result)) frames.new) }
-    ensures settled { OnOk result (NothingPending (D.told (device_behind result))) }
+    ensures mounted { OnOk result (IsMounted (D.words (device_behind result)) (D.told (device_behind result)) frames.new) }
     ensures phase { Phase (RemovedOrNot (files (D.words dev)) entry.dir entry.offset entry.number) MOST_REMOVAL_PAIRS (D.told dev) (D.told (device_behind result)) (D.words (device_behind result)) }
     ensures taken { OnOk result (length frames.old.free ≤ length frames.new.free + missing (D.words dev) (give_up_wants (inode_at (view (D.words dev)) entry.number))) }
     ensures cause { HasCause (D.faults dev) (D.faults (device_behind result)) result }
@@ -76,18 +70,14 @@ pub(crate) fn remove<D: Pm>(
     entry: Entry,
     inode: Inode,
 ) -> Result<D, Broken<D>>
-    requires rest { IsAtRest (D.words dev) }
-    requires agrees { Agrees (D.words dev) frames.old }
-    requires settled { NothingPending (D.told dev) }
+    requires mounted { IsMounted (D.words dev) (D.told dev) frames.old }
     requires leaf { IsLeaf (files (D.words dev)) entry.dir entry.offset entry.number }
     requires inode { inode ≡ inode_at (view (D.words dev)) entry.number }
     requires space { missing (D.words dev) (give_up_wants inode) ≤ length frames.old.free }
 
     ensures objects { OnOk result (files (D.words (device_behind result)) ≡ removed (files (D.words dev)) entry.dir entry.offset entry.number) }
     ensures counted { OnOk result (inode_count (D.words (device_behind result)) ≡ inode_count (D.words dev)) }
-    ensures rest { OnOk result (IsAtRest (D.words (device_behind result))) }
-    ensures agrees { OnOk result (Agrees (D.words (device_behind result)) frames.new) }
-    ensures settled { OnOk result (NothingPending (D.told (device_behind result))) }
+    ensures mounted { OnOk result (IsMounted (D.words (device_behind result)) (D.told (device_behind result)) frames.new) }
 
     // A crash at any moment lands on the objects with this one, or on those without it.
     ensures phase { Phase (RemovedOrNot (files (D.words dev)) entry.dir entry.offset entry.number) MOST_REMOVAL_PAIRS (D.told dev) (D.told (device_behind result)) (D.words (device_behind result)) }

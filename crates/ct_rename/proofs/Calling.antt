@@ -14,7 +14,7 @@ use Rattle.ct_base.specs.Walk.{page_at}
 use Rattle.ct_base.specs.Wants.{Want, missing}
 use Rattle.ct_call.specs.Answers.{HasOnlyPlan, LacksInode}
 use Rattle.ct_call.specs.Calls.{StandsFor}
-use Rattle.ct_call.specs.Mounted.{IsAtRest}
+use Rattle.ct_commit.specs.Rest.{IsAtRest}
 use Rattle.ct_call.specs.Plans.{IsGrowth, Plans, level_of}
 use Rattle.ct_call.specs.declared.plan.CallPlan.{CallPlan}
 use Rattle.ct_call.specs.declared.plan.Growth.TheVariants.{Stays}
@@ -35,10 +35,10 @@ use Rattle.ct_tree.specs.Need.{IsAt}
 use Rattle.ct_tree.specs.Resolve.{last_name, parent}
 use Rattle.ct_tree.specs.Step.{rename}
 use Rattle.ct_remove.proofs.Asked.{dir_kind, dir_owns, dir_room, slot_ends}
-use Rattle.ct_remove.proofs.Fitting.{entry_live}
-use Rattle.ct_remove.proofs.Whole.{rest_asked, rest_settled}
-use Rattle.ct_remove.specs.Found.{IsEntryAt}
-use Rattle.ct_remove.specs.declared.find.Entry.{Entry}
+use Rattle.ct_find.proofs.Fitting.{entry_live}
+use Rattle.ct_remove.proofs.Whole.{rest_asked}
+use Rattle.ct_find.specs.Entries.{IsEntryAt}
+use Rattle.ct_find.specs.declared.entry.Entry.{Entry}
 use Rattle.ct_rename.specs.Forms.{IsForm}
 use Rattle.ct_rename.specs.Renamed.{CanRename, IsPlanFor}
 use Rattle.ct_rename.specs.declared.find.Form.{Form}
@@ -55,7 +55,7 @@ plan_by w (Over e there gone) = plan_of (give_up_wants gone)
 pub lacks_none : (w path to : List ℕ) → ¬ LacksInode w (rename path to)
 lacks_none w path to lacks = lacks.0
 
-both_ways : {b : Rattle.std.specs.Prelude.Bool} → b ≡ true → b ≡ false → ⊥
+pub both_ways : {b : Rattle.std.specs.Prelude.Bool} → b ≡ true → b ≡ false → ⊥
 both_ways on off = absurd (cc)
 
 pub no_level : {level : ℕ} → None ≡ Some level → ⊥
@@ -100,7 +100,7 @@ module _ {w : List ℕ} (path to : List ℕ) (rest : IsAtRest w) where
       let a = rest_asked rest is.3 in
       let ends = slot_ends a in (
         record {
-          rest = rest_settled rest;
+          rest = rest;
           slot = is.1.entered.slot;
           child = is.1.entered.child;
           owns = dir_owns a;

@@ -8,10 +8,10 @@ use Rattle.ct_base.specs.Path.{is_name}
 use Rattle.ct_base.specs.Slots.{IsSlot}
 use Rattle.ct_base.specs.View.{view, inode_count}
 use Rattle.ct_base.specs.Walk.{word, page_at}
-use Rattle.ct_call.proofs.Landed.{lands_on}
+use Rattle.ct_commit.proofs.Landed.{lands_on}
 use Rattle.ct_call.proofs.Pairs.{least_pairs}
 use Rattle.ct_call.specs.Calls.{StandsFor, after, most_pairs}
-use Rattle.ct_call.specs.Mounted.{IsAtRest}
+use Rattle.ct_commit.specs.Rest.{IsAtRest}
 use Rattle.ct_dir.proofs.Held.{room_there, used_there}
 use Rattle.ct_dir.specs.Directory.{IsReadable, dir_of}
 use Rattle.ct_path.proofs.Sounds.{is_live, readable}
@@ -25,7 +25,6 @@ use Rattle.ct_tree.specs.Lands.{Lands, files}
 use Rattle.ct_tree.specs.Stands.{Stands}
 use Rattle.ct_tree.specs.Step.{refusal, rename}
 use Rattle.ct_tree.specs.Tree.{Tree}
-use Rattle.ct_remove.proofs.Whole.{rest_settled}
 use Rattle.ct_rename.specs.Forms.{IsForm}
 use Rattle.ct_rename.specs.Moves.{CanLeave, CanMove, HasTree, TurnedOrNot}
 use Rattle.ct_rename.specs.Renamed.{renamed}
@@ -50,7 +49,7 @@ module _ {w : List ℕ} (rest : IsAtRest w) (d : ℕ) {o : ℕ} (slot : IsSlot (
 
   can_here : {i : ℕ} {name : List ℕ} → CanLeave w d o i → is_name name ≡ true → CanMove w d o d o i name
   can_here leave lawful = record {
-    rest = rest_settled rest;
+    rest = rest;
     slot = slot;
     child = leave.child;
     owns = record { live = slot_live; level = slot_room.part.level };

@@ -1,5 +1,5 @@
 -- What a rename makes of sound words.
-use Rattle.std.proofs.Common.{◌≡◌, ◌≢◌, ℕ, ◌<◌, List, sym, ap, ◌∙◌, subst}
+use Rattle.std.proofs.Common.{◌≡◌, ◌≢◌, ℕ, ◌/◌, ◌<◌, List, sym, ap, ◌∙◌, subst}
 use Rattle.std.specs.Prelude.{slice_index}
 use Rattle.ct_pm.specs.Device.{SameOff}
 use Rattle.ct_record.specs.Record.{InRecord}
@@ -7,9 +7,14 @@ use Rattle.ct_state.specs.Forest.{OneTree}
 use Rattle.ct_tree.specs.Lands.{files}
 use Rattle.ct_remove.specs.Asked.{IsAsked}
 use Rattle.ct_remove.proofs.Removing.{files_are as removed_are}
-use Rattle.ct_rename.specs.Moves.{CanMove, HasTree, Moved, MovesEntry, Replaces, moved, replaced}
+use Rattle.ct_base.specs.Free.{IsFilePage}
+use Rattle.ct_base.specs.Settled.{IsShut}
+use Rattle.ct_commit.specs.Made.{Settles, Spares}
+use Rattle.ct_commit.specs.Rest.{IsAtRest}
+use Rattle.ct_commit.proofs.Landed.{rest_spares, settles_as}
+use Rattle.ct_rename.specs.Moves.{CanMove, HasTree, Moved, MovesEntry, Replaces, TurnedOrNot, moved, replaced}
 use Rattle.ct_rename.proofs.Moving.{files_are, moved_settled}
-use Rattle.ct_rename.proofs.Recording.{Changed, moves_beside}
+use Rattle.ct_rename.proofs.Recording.{moves_beside}
 use Rattle.ct_rename.proofs.Replacing.{can_still}
 use Rattle.ct_rename.proofs.Spared.{moved_page, replaced_page}
 
@@ -28,12 +33,15 @@ moves_by_beside old mid new m same = record { moves = moves_beside m.moves same;
 pub moved_by : {w new : List ℕ} {d o k s i : ℕ} {name : List ℕ} → CanMove w d o k s i name → MovesBy d o k s i name w new → Moved w new d o k s i name
 moved_by can m = record { can = can; moves = m.moves; small = m.small }
 
-pub moved_changed : {w : List ℕ} {d o k s i : ℕ} {name : List ℕ} → CanMove w d o k s i name → HasTree (moved (files w) d o k s i name) → (new : List ℕ) → MovesBy d o k s i name w new → Changed w new (moved (files w) d o k s i name)
-moved_changed can tree new m = record {
-  settled = λ shut. moved_settled (moved_by can m) tree.one shut;
-  objects = files_are (moved_by can m);
-  pages = λ page is. moved_page (moved_by can m) is;
-}
+module _ {w : List ℕ} {d o k s i : ℕ} {name : List ℕ} (can : CanMove w d o k s i name) (tree : HasTree (moved (files w) d o k s i name)) where
+  moved_rests : (new : List ℕ) → MovesBy d o k s i name w new → IsShut new → IsAtRest new
+  moved_rests new m shut = moved_settled (moved_by can m) tree.one shut
+
+  pub moving_spares : {N : ℕ → Type 0} → ((word : ℕ) → N word → IsFilePage w (word / 512) → ⊥) → Spares w (MovesBy d o k s i name w) N
+  moving_spares off = rest_spares can.rest moved_rests off (λ new m page is. moved_page (moved_by can m) is)
+
+  pub moving_settles : Settles w (MovesBy d o k s i name w) (TurnedOrNot (files w) (moved (files w) d o k s i name))
+  moving_settles = settles_as can.rest moved_rests (λ new m. files_are (moved_by can m))
 
 -- and one of a move that replaces
 pub record ReplacesBy (d o k s i j : ℕ) (name : List ℕ) (old new : List ℕ) : Type 0 where
@@ -56,9 +64,12 @@ module _ {w : List ℕ} {d o k s i j : ℕ} {name : List ℕ} (can : CanMove w d
   pub replaced_tree : HasTree (replaced (files w) d o k s i j name) → {new : List ℕ} (r : Replaces w new d o k s i j name) → HasTree (moved (files r.middle) d o k s i name)
   replaced_tree tree r = record { tree = tree.tree; one = subst (λ fs. OneTree (moved fs d o k s i name) tree.tree) (sym (removed_are asked r.removes)) tree.one }
 
-  pub replaced_changed : HasTree (replaced (files w) d o k s i j name) → (new : List ℕ) → ReplacesBy d o k s i j name w new → Changed w new (replaced (files w) d o k s i j name)
-  replaced_changed tree new m = record {
-    settled = λ shut. moved_settled (moved_last m.replaces m.small) (replaced_tree tree m.replaces).one shut;
-    objects = replaced_are m.replaces m.small;
-    pages = λ page is. replaced_page can asked away m.small m.replaces is;
-  }
+  module _ (tree : HasTree (replaced (files w) d o k s i j name)) where
+    pub replaced_rest : (new : List ℕ) → ReplacesBy d o k s i j name w new → IsShut new → IsAtRest new
+    replaced_rest new m shut = moved_settled (moved_last m.replaces m.small) (replaced_tree tree m.replaces).one shut
+
+    pub replacing_spares : {N : ℕ → Type 0} → ((word : ℕ) → N word → IsFilePage w (word / 512) → ⊥) → Spares w (ReplacesBy d o k s i j name w) N
+    replacing_spares off = rest_spares can.rest replaced_rest off (λ new m page is. replaced_page can asked away m.small m.replaces is)
+
+    pub replacing_settles : Settles w (ReplacesBy d o k s i j name w) (TurnedOrNot (files w) (replaced (files w) d o k s i j name))
+    replacing_settles = settles_as can.rest replaced_rest (λ new m. replaced_are m.replaces m.small)

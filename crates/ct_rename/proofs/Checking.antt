@@ -18,19 +18,16 @@ use Rattle.ct_tree.specs.Tree.{Tree, File, Dir}
 use Rattle.ct_tree.specs.declared.call.Refusal.{Refusal}
 use Rattle.ct_tree.specs.declared.call.Refusal.TheVariants.{BadPath, Exists, IntoSelf, IsRoot}
 use Rattle.ct_call.specs.Calls.{StandsFor}
-use Rattle.ct_call.specs.Mounted.{IsAtRest}
-use Rattle.ct_remove.proofs.Finding.{resolve_last}
-use Rattle.ct_remove.specs.Found.{IsEntryAt}
-use Rattle.ct_remove.specs.declared.find.Entry.{Entry}
+use Rattle.ct_commit.specs.Rest.{IsAtRest}
+use Rattle.ct_find.proofs.Finding.{resolve_last}
+use Rattle.ct_find.specs.Entries.{IsEntryAt}
+use Rattle.ct_find.specs.declared.entry.Entry.{Entry}
 use Rattle.ct_rename.specs.Forms.{AreBelow}
 
 -- ---- one check
 
 pub bad_none : (path : List ℕ) {xs : List (List ℕ)} → names_of path ≡ Some xs → bad_path path ≡ None
 bad_none path is = ap (λ o. refuse_if (is_none o) BadPath) is
-
-pub bad_some : (path : List ℕ) → names_of path ≡ None → bad_path path ≡ Some BadPath
-bad_some path is = ap (λ o. refuse_if (is_none o) BadPath) is
 
 pub good_names : (path : List ℕ) → names_of path ≢ None → (xs : List (List ℕ)) × (names_of path ≡ Some xs)
 good_names path good = some (names_of path) refl
@@ -46,9 +43,6 @@ not_root (Some (x ∷ xs)) r is below = refl
 
 pub root_none : (path : List ℕ) {xs : List (List ℕ)} (r : Refusal) → names_of path ≡ Some xs → path ≢ 47 ∷ [] → is_root path r ≡ None
 root_none path r is below = not_root (names_of path) r is (λ none. has_names path below none)
-
-pub root_some : (path : List ℕ) (r : Refusal) → path ≡ 47 ∷ [] → is_root path r ≡ Some r
-root_some path r is = ap (λ p. is_root p r) is
 
 single : (o : Option Refusal) {why : Refusal} → first_of (o ∷ []) ≡ Some why → o ≡ Some why
 single None is = absurd (cc)

@@ -1,5 +1,5 @@
 -- The tree after each form of a rename.
-use Rattle.std.proofs.Common.{◌≡◌, ◌≢◌, ℕ, ◌+◌, ◌-◌, ◌<◌, ◌≤◌, ◌%◌, List, refl, sym, ap, subst, ◌∙◌, inl, inr, arith}
+use Rattle.std.proofs.Common.{ap, arith, inl, inr, List, None, refl, subst, sym, ℕ, ◌%◌, ◌+◌, ◌-◌, ◌<◌, ◌∙◌, ◌≡◌, ◌≢◌, ◌≤◌}
 use Rattle.std.specs.Prelude.{max}
 use Rattle.std.proofs.lemmas.Bool.{cases_eq, eq-eqb, ne_eqb}
 use Rattle.ct_base.specs.declared.inode.Inode.{Inode}
@@ -20,11 +20,10 @@ use Rattle.ct_state.proofs.Renames.{renamed_self}
 use Rattle.ct_tree.specs.Lands.{files}
 use Rattle.ct_tree.specs.Step.{refusal, rename, step}
 use Rattle.ct_tree.specs.Tree.{Tree}
-use Rattle.std.proofs.Common.{None}
 use Rattle.ct_call.specs.Calls.{StandsFor}
-use Rattle.ct_call.specs.Mounted.{IsAtRest}
+use Rattle.ct_commit.specs.Rest.{IsAtRest}
 use Rattle.ct_enter.proofs.Offered.{next_unused}
-use Rattle.ct_remove.proofs.Fitting.{entry_live}
+use Rattle.ct_find.proofs.Fitting.{entry_live}
 use Rattle.ct_rename.specs.Forms.{IsForm}
 use Rattle.ct_rename.specs.Moves.{moved, replaced}
 use Rattle.ct_rename.specs.Renamed.{renamed, slot_for}
@@ -117,7 +116,7 @@ within_is fs d o s i j y left = replaced_within_are d o s i j y left to gone oth
         ∙ other_at (detach fs d s) j no_object c away ∙ other_at fs d (without_slot (fs d) s) c here
 
 -- an object that goes before the entry moves, or behind it
-over_is : (fs : ℕ → Object) (d o k s i j : ℕ) (y : List ℕ) → d ≢ j → k ≢ j → replaced fs d o k s i j y ≡ discard (attach (detach fs d o) k s i y) j
+pub over_is : (fs : ℕ → Object) (d o k s i j : ℕ) (y : List ℕ) → d ≢ j → k ≢ j → replaced fs d o k s i j y ≡ discard (attach (detach fs d o) k s i y) j
 over_is fs d o k s i j y left right = elim (cases_eq d k) [
   | inr other ↦ apart_is fs d o k s i j y left right other
   | inl same ↦ subst (λ e. replaced fs d o e s i j y ≡ discard (attach (detach fs d o) e s i y) j) same (within_is fs d o s i j y left)
@@ -129,10 +128,10 @@ module _ {w : List ℕ} (rest : IsAtRest w) where
   forest : {t : Tree} → StandsFor w t → OneTree (files w) t
   forest {t} st = sound_forest w t (omega (arith, rest.head.inodes.0)) rest.sound st.tree st.stands
 
-  tail_of : (d : ℕ) → IsNumber (inode_count w) d → HasTail (files w d)
+  pub tail_of : (d : ℕ) → IsNumber (inode_count w) d → HasTail (files w d)
   tail_of d number = subst HasTail (sym (objects-in (view w) (inode_count w) d number)) (object_tail (view w) d)
 
-  slot_live : (d : ℕ) {o : ℕ} → IsSlot (files w d) o → IsLive (view w) (inode_count w) d
+  pub slot_live : (d : ℕ) {o : ℕ} → IsSlot (files w d) o → IsLive (view w) (inode_count w) d
   slot_live d slot = is_live w rest.sound rest.head.inodes.1 d (λ z. omega (arith, z, slot.dir))
 
 module _ {w : List ℕ} (path to : List ℕ) (rest : IsAtRest w) {t : Tree} (st : StandsFor w t) (passes : refusal t (rename path to) ≡ None) where

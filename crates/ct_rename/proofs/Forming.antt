@@ -11,12 +11,12 @@ use Rattle.ct_tree.specs.Lands.{files}
 use Rattle.ct_tree.specs.Stands.{Stands}
 use Rattle.ct_tree.specs.Tree.{Tree, File, Dir, none, entry}
 use Rattle.ct_tree.specs.declared.call.Refusal.{Refusal}
-use Rattle.ct_call.specs.Mounted.{IsAtRest}
-use Rattle.ct_enter.specs.declared.create.Kind.{Kind}
-use Rattle.ct_enter.specs.declared.create.Kind.TheVariants.{File as file, Directory as directory}
-use Rattle.ct_remove.proofs.Fitting.{entry_live, fit_dir, fit_file}
-use Rattle.ct_remove.specs.Found.{IsEntryAt, IsFit, StandsAt}
-use Rattle.ct_remove.specs.declared.find.Entry.{Entry}
+use Rattle.ct_commit.specs.Rest.{IsAtRest}
+use Rattle.ct_find.specs.declared.kind.Kind.{Kind}
+use Rattle.ct_find.specs.declared.kind.Kind.TheVariants.{File as file, Directory as directory}
+use Rattle.ct_find.proofs.Fitting.{entry_live, fit_dir, fit_file}
+use Rattle.ct_find.specs.Entries.{IsEntryAt, IsFit, StandsAt}
+use Rattle.ct_find.specs.declared.entry.Entry.{Entry}
 use Rattle.ct_rename.specs.Forms.{IsKindOf}
 
 -- what an object's being fit to give way says

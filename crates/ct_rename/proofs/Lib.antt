@@ -12,4 +12,5 @@ pub mod Pairing
 pub mod Planning
 pub mod Recording
 pub mod Replacing
+pub mod Slotted
 pub mod Spared

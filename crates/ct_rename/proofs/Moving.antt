@@ -2,7 +2,6 @@
 use Rattle.std.proofs.Common.{◌≡◌, ◌≢◌, ℕ, zero, suc, ◌+◌, ◌-◌, ◌*◌, ◌/◌, ◌%◌, ◌^◌, ◌<◌, ◌≤◌, ◌⊎◌, true, false, List, length, refl, sym, ap, subst, ◌∙◌, inl, inr, arith}
 use Rattle.std.specs.Prelude.{◌==◌, ◌&&◌, not, nat_le, slice_index, max}
 use Rattle.std.proofs.lemmas.Bool.{cases_eq, cases_lt, eq-eqb, eqb-true}
-use Rattle.ct_base.specs.Head.{HasHead}
 use Rattle.ct_base.specs.Headers.{HeadersStand, byte_place}
 use Rattle.ct_base.specs.Inode.{AreApart, IsIn, IsLive, IsNumber, IsPart, has_part, inode, inode_word, live_parts, part_bytes}
 use Rattle.ct_base.specs.Objects.{Object, object, objects}
@@ -11,9 +10,8 @@ use Rattle.ct_base.specs.Settled.{IsShut}
 use Rattle.ct_base.specs.View.{view, inode_count}
 use Rattle.ct_base.specs.Walk.{word, page_at, AreTables}
 use Rattle.ct_base.specs.Words.{word_at}
-use Rattle.ct_call.proofs.FilePages.{base_whole, room_of}
-use Rattle.ct_call.specs.Landing.{LandsAs}
-use Rattle.ct_call.specs.Rooms.{KeepsTables}
+use Rattle.ct_commit.proofs.Pages.{base_whole, room_of}
+use Rattle.ct_commit.specs.Rest.{IsAtRest, KeepsTables}
 use Rattle.ct_dir.proofs.Held.{room_there, slot_high}
 use Rattle.ct_dir.proofs.Texts.{length-slot_words}
 use Rattle.ct_dir.proofs.Written.{is_name-length, slot_words-fit}
@@ -24,21 +22,18 @@ use Rattle.ct_inode.proofs.Loaded.{kind_none, word_shown}
 use Rattle.ct_inode.proofs.Rewritten.{view_inside, view_outside, word_inside}
 use Rattle.ct_parts.proofs.Stand.{place_bounds}
 use Rattle.ct_path.proofs.Sounds.{is_live}
-use Rattle.ct_record.proofs.Lawful.{shut_few}
+use Rattle.ct_commit.proofs.States.{head_over}
 use Rattle.ct_state.specs.Alike.{IsWhole}
 use Rattle.ct_state.specs.Edits.{slot_byte, without_slot}
 use Rattle.ct_state.specs.Forest.{OneTree}
 use Rattle.ct_state.proofs.Added.{forest_rules}
 use Rattle.ct_state.proofs.Addressed.{Empties, Fills, moved_objects, moved_within_objects}
 use Rattle.ct_state.proofs.Bytes.{SameObject, content-at, little-same, objects-in}
-use Rattle.ct_state.proofs.Carry.{files-same, sound-same}
 use Rattle.ct_state.proofs.Edits.{beside_or, kept_out, zeros_in}
 use Rattle.ct_state.proofs.Rebuilt.{Rebuilt, rebuilt_space}
-use Rattle.ct_state.proofs.Shut.{shut_alike, shut_whole}
 use Rattle.ct_state.proofs.Write.{HasSpace}
 use Rattle.ct_tree.specs.Lands.{files}
 use Rattle.ct_tree.specs.Tree.{Tree}
-use Rattle.ct_remove.specs.Asked.{IsSettled}
 use Rattle.ct_remove.proofs.Erasing.{empty_at, empty_length, seen_part, zero_byte}
 use Rattle.ct_rename.specs.Moves.{CanMove, Moved, moved}
 use Rattle.ct_rename.proofs.Bytes.{slot_bytes}
@@ -69,9 +64,6 @@ module _ {w : List ℕ} {d o k s i : ℕ} {name : List ℕ} (a : CanMove w d o k
 
   pub to_room : HasRoom (inode (view w) k)
   to_room = room_of w a.rest.sound a.owns
-
-  pub from_few : d ≤ 1048576
-  from_few = omega (arith, few, from_live.number.to)
 
   pub to_few : k ≤ 1048576
   to_few = omega (arith, few, a.owns.live.number.to)
@@ -463,20 +455,6 @@ module _ {w new : List ℕ} {d o k s i : ℕ} {name : List ℕ} (m : Moved w new
   space_now : HasSpace (view new) (inode_count new)
   space_now = on HasSpace (rebuilt_space rebuilt)
 
-  head_now : IsShut new → HasHead new
-  head_now shut =
-      let h = a.rest.head in
-      let pages = keeps.head 2 (omega arith) in
-      record {
-        pages = (omega (arith, h.pages.0, keeps.size), omega (arith, h.pages.1, keeps.size));
-        magic = keeps.head 0 (omega arith) ∙ h.magic;
-        version = keeps.head 1 (omega arith) ∙ h.version;
-        count = (omega (arith, h.count.0, pages), omega (arith, h.count.1, pages, keeps.size));
-        inodes = (omega (arith, h.inodes.0, keeps.head 3 (omega arith)), omega (arith, h.inodes.1, keeps.head 3 (omega arith)));
-        spare = λ x four lt. keeps.head x lt ∙ h.spare x four lt;
-        recorded = (shut_few 0 new shut).lawful;
-      }
-
   module _ {t : Tree} (tree : OneTree (moved (files w) d o k s i name) t) where
     one_tree : OneTree (files new) t
     one_tree = subst (λ fs. OneTree fs t) (sym files_are) tree
@@ -496,13 +474,5 @@ module _ {w new : List ℕ} {d o k s i : ℕ} {name : List ℕ} (m : Moved w new
     moved_sound named = (forest_rules new t one_tree).2
     moved_sound reached = (forest_rules new t one_tree).3
 
-    pub moved_settled : IsShut new → IsSettled new
-    moved_settled shut = record { head = head_now shut; sound = moved_sound; shut = shut; tables = tables_now }
-
-    -- whatever is staged
-    pub moved_lands : IsShut new → LandsAs (moved (files w) d o k s i name) new
-    moved_lands shut = record {
-      head = head_now shut;
-      sound = sound-same (shut_alike shut moved_whole) (shut_whole shut moved_whole) moved_sound;
-      objects = files-same (shut_alike shut moved_whole) ∙ files_are;
-    }
+    pub moved_settled : IsShut new → IsAtRest new
+    moved_settled shut = record { head = head_over a.rest.head keeps.head keeps.size shut; sound = moved_sound; shut = shut; tables = tables_now }

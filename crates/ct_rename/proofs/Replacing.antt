@@ -7,7 +7,7 @@ use Rattle.ct_base.specs.Rules.{Owns, apart, part_of, slots}
 use Rattle.ct_base.specs.Settled.{IsShut}
 use Rattle.ct_base.specs.Slots.{IsSlot, slot_inode}
 use Rattle.ct_base.specs.View.{view, inode_count}
-use Rattle.ct_call.proofs.FilePages.{base_whole, room_of}
+use Rattle.ct_commit.proofs.Pages.{base_whole, room_of}
 use Rattle.ct_state.specs.Edits.{HasTail, detach}
 use Rattle.ct_state.proofs.Addressed.{object_tail}
 use Rattle.ct_state.proofs.Edits.{detaches, other_at, turns_of}

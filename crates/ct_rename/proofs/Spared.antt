@@ -6,11 +6,12 @@ use Rattle.ct_base.specs.Rules.{apart, Owns, part_of}
 use Rattle.ct_base.specs.View.{view, inode_count}
 use Rattle.ct_base.specs.Walk.{word, page_at}
 use Rattle.ct_base.specs.Words.{place_at}
-use Rattle.ct_call.proofs.FilePages.{base_whole, file_cell, high_in, room_of, word_page}
+use Rattle.ct_commit.proofs.Pages.{base_whole, file_cell, high_in, room_of, word_page}
 use Rattle.ct_dir.proofs.Held.{used_there}
 use Rattle.ct_image.proofs.Steps.{walk-cell}
 use Rattle.ct_pm.specs.Device.{IsIn as IsWordIn}
-use Rattle.ct_remove.specs.Asked.{IsAsked, IsSettled}
+use Rattle.ct_remove.specs.Asked.{IsAsked}
+use Rattle.ct_commit.specs.Rest.{IsAtRest}
 use Rattle.ct_remove.proofs.Giving.{slot_there}
 use Rattle.ct_remove.proofs.Sparing.{gone_apart, removed_page}
 use Rattle.ct_rename.specs.Moves.{CanMove, IsLinkWord, IsMoveWord, IsReplaceWord, Moved, Replaces}
@@ -18,7 +19,7 @@ use Rattle.ct_rename.proofs.Moving.{count_same, from_ends, from_kind, from_live,
 use Rattle.ct_rename.proofs.Replacing.{can_still}
 
 -- a word of a directory's slot is on no page of a file
-dir_word : {w : List ℕ} → IsSettled w → (p n word : ℕ) → Owns (view w) (inode_count w) p → (inode (view w) p).kind ≡ 2 → n % 256 ≡ 0 → n + 256 ≤ part_bytes (inode (view w) p).level
+dir_word : {w : List ℕ} → IsAtRest w → (p n word : ℕ) → Owns (view w) (inode_count w) p → (inode (view w) p).kind ≡ 2 → n % 256 ≡ 0 → n + 256 ≤ part_bytes (inode (view w) p).level
     → page_at w 4 (((inode (view w) p).base + n) / 4096) ≢ 0 → IsWordIn (place_at w ((inode (view w) p).base + n)) 32 word → IsFilePage w (word / 512) → ⊥
 dir_word {w} rest p n word owns kind aligned fits there inside is =
     let v = (inode (view w) p).base + n in

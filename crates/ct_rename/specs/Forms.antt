@@ -10,11 +10,11 @@ use Rattle.ct_tree.specs.Checks.{at}
 use Rattle.ct_tree.specs.Lands.{files}
 use Rattle.ct_tree.specs.Tree.{Tree}
 use Rattle.ct_tree.specs.declared.call.Refusal.{Refusal}
-use Rattle.ct_enter.specs.declared.create.Kind.{Kind}
-use Rattle.ct_enter.specs.declared.create.Kind.TheVariants.{File as file, Directory as directory}
+use Rattle.ct_find.specs.declared.kind.Kind.{Kind}
+use Rattle.ct_find.specs.declared.kind.Kind.TheVariants.{File as file, Directory as directory}
 use Rattle.ct_call.specs.Calls.{StandsFor}
-use Rattle.ct_enter.specs.Spots.{IsNewName}
-use Rattle.ct_remove.specs.Found.{IsEntryAt, IsLeaf, StandsAt}
+use Rattle.ct_find.specs.Spots.{IsNewName}
+use Rattle.ct_find.specs.Entries.{IsEntryAt, IsLeaf, StandsAt}
 use Rattle.ct_rename.specs.declared.find.Form.{Form}
 use Rattle.ct_rename.specs.declared.find.Form.TheVariants.{Same, New, Over}
 use Rattle.ct_rename.specs.declared.find.Target.{Target}

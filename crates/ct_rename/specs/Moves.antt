@@ -16,8 +16,8 @@ use Rattle.ct_base.specs.Settled.{IsShut}
 use Rattle.ct_base.specs.declared.layout.TheConstants.{DIRECTORY_KIND, ENTRY_BYTES, ENTRY_WORDS, MOST_INODES}
 use Rattle.ct_tree.specs.Tree.{Tree}
 use Rattle.ct_state.specs.Forest.{OneTree}
-use Rattle.ct_call.specs.Landing.{LandsAs}
-use Rattle.ct_remove.specs.Asked.{IsSettled}
+use Rattle.ct_commit.specs.Landing.{LandsAs}
+use Rattle.ct_commit.specs.Rest.{IsAtRest}
 use Rattle.ct_remove.specs.Erased.{IsGone, Removes}
 use Rattle.ct_remove.specs.Removed.{removed}
 
@@ -27,7 +27,7 @@ moved fs d o k s i name = attach (detach fs d o) k s i name
 
 -- Sound words, an entry at offset o of directory d, and a place for a slot at s of directory k.
 pub record CanMove (w : List ℕ) (d o k s i : ℕ) (name : List ℕ) : Type 0 where
-  pub rest : IsSettled w
+  pub rest : IsAtRest w
   pub slot : IsSlot (files w d) o
   pub child : slot_inode (files w d) o ≡ i
   pub owns : Owns (view w) (inode_count w) k

@@ -9,8 +9,8 @@ use Rattle.ct_call.specs.declared.plan.CallPlan.{CallPlan}
 use Rattle.ct_call.specs.declared.plan.Growth.TheVariants.{Stays}
 use Rattle.ct_enter.specs.Makes.{IsFreshName}
 use Rattle.ct_enter.specs.Plans.{IsEntryPlan}
-use Rattle.ct_enter.specs.Spots.{IsNextSlot}
-use Rattle.ct_remove.specs.Found.{IsLeaf}
+use Rattle.ct_find.specs.Spots.{IsNextSlot}
+use Rattle.ct_find.specs.Entries.{IsLeaf}
 use Rattle.ct_tree.specs.Lands.{files}
 use Rattle.ct_rename.specs.Moves.{CanLeave, CanMove, moved, replaced}
 use Rattle.ct_rename.specs.declared.find.Form.{Form}

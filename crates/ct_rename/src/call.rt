@@ -6,12 +6,10 @@ ghost use Rattle.ct_base.specs.View.{inode_count};
 ghost use Rattle.ct_base.specs.Wants.{missing};
 ghost use Rattle.ct_call.specs.Answers.{IsPrepared};
 ghost use Rattle.ct_call.specs.Calls.{Does, StandsFor};
-ghost use Rattle.ct_call.specs.Mounted.{IsAtRest};
+ghost use Rattle.ct_commit.specs.Rest.{IsAtRest, IsMounted};
 ghost use Rattle.ct_call.specs.Placed.{IsMoved, Places};
 ghost use Rattle.ct_call.specs.Plans.{Fits, level_of};
 ghost use Rattle.ct_call.specs.Seen.{ready_in};
-ghost use Rattle.ct_frames.specs.Agrees.{Agrees};
-ghost use Rattle.ct_pm.specs.Device.{NothingPending};
 ghost use Rattle.ct_pm.specs.Phase.{Phase};
 ghost use Rattle.ct_record.specs.Seen.{device_behind};
 ghost use Rattle.ct_tree.specs.Lands.{files};
@@ -24,7 +22,7 @@ ghost use Rattle.ct_rename.specs.Renamed.{CanRename, IsIdle, IsPlanFor, renamed,
 use crate::carry::{move_at, move_there, replace};
 use crate::draft::MOST_RENAME_PAIRS;
 use crate::find::{Form, find_form};
-use ct_call::{CallPlan, Failed, FsError, Growth, Mounted, State, check_space};
+use ct_call::{CallPlan, FsError, Growth, Mounted, State, check_space, ended, refused};
 use ct_dir::name_at;
 use ct_enter::entry_plan;
 use ct_frames::Frames;
@@ -71,8 +69,7 @@ fn prepare<'p, D: Pm>(
     path: &[u8],
     to: &'p [u8],
 ) -> Result<(Form<'p>, CallPlan), Refusal>
-    requires rest { IsAtRest (D.words dev.now) }
-    requires agrees { Agrees (D.words dev.now) frames.now }
+    requires mounted { IsMounted (D.words dev.now) (D.told dev.now) frames.now }
     ensures answer { (t : Tree) → StandsFor (D.words dev.now) t → IsPrepared (D.words dev.now) t (rename path.now to.now) result }
     ensures form { IfOk result (λ found. IsForm (D.words dev.now) path.now to.now found.0) }
     ensures can { IfOk result (λ found. CanRename (D.words dev.now) found.0) }
@@ -98,9 +95,7 @@ fn carry_out<D: Pm>(
     form: &Form<'_>,
     plan: &CallPlan,
 ) -> Result<D, Broken<D>>
-    requires rest { IsAtRest (D.words dev) }
-    requires agrees { Agrees (D.words dev) frames.old }
-    requires settled { NothingPending (D.told dev) }
+    requires mounted { IsMounted (D.words dev) (D.told dev) frames.old }
     requires can { CanRename (D.words dev) form.now }
     requires plan { IsPlanFor (D.words dev) form.now plan.now }
     requires fits { Fits (D.words dev) frames.old plan.now }
@@ -110,9 +105,7 @@ fn carry_out<D: Pm>(
     ensures moved { OnOk result ((level : ℕ) → level_of plan.now.growth ≡ Some level → IsMoved (λ v. ⊥) (D.words dev) (D.words (device_behind result)) (room_dir form.now) level) }
     ensures taken { OnOk result (length frames.old.free ≤ length frames.new.free + missing (D.words dev) plan.now.wants) }
     ensures counted { OnOk result (inode_count (D.words (device_behind result)) ≡ inode_count (D.words dev)) }
-    ensures rest { OnOk result (IsAtRest (D.words (device_behind result))) }
-    ensures agrees { OnOk result (Agrees (D.words (device_behind result)) frames.new) }
-    ensures settled { OnOk result (NothingPending (D.told (device_behind result))) }
+    ensures mounted { OnOk result (IsMounted (D.words (device_behind result)) (D.told (device_behind result)) frames.new) }
     ensures phase { Phase (TurnedOrNot (files (D.words dev)) (renamed (files (D.words dev)) form.now)) MOST_RENAME_PAIRS (D.told dev) (D.told (device_behind result)) (D.words (device_behind result)) }
     ensures cause { HasCause (D.faults dev) (D.faults (device_behind result)) result }
 {
@@ -144,22 +137,8 @@ pub fn rename_in<D: Pm>(
     let Mounted { dev, mut frames } = mounted;
     let (form, plan) = match prepare(&dev, &frames, path, to) {
         Ok(found) => found,
-        Err(refusal) => {
-            return (
-                State::Ready(Mounted { dev, frames }),
-                Err(FsError::Refused(refusal)),
-            );
-        }
+        Err(refusal) => return refused(dev, frames, refusal),
     };
-    match carry_out(dev, &mut frames, &form, &plan) {
-        Ok(dev) => {
-            // Not the count is wanted, but what its contract says: the free pages are a list that can be counted.
-            let _ = frames.free();
-            (State::Ready(Mounted { dev, frames }), Ok(()))
-        }
-        Err(broken) => {
-            let Broken { dev } = broken;
-            (State::Dead(Failed { dev }), Err(FsError::Fault))
-        }
-    }
+    let carried = carry_out(dev, &mut frames, &form, &plan);
+    ended(carried, frames)
 }

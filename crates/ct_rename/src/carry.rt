@@ -6,19 +6,17 @@ ghost use Rattle.ct_base.specs.Plan.{give_up_wants};
 ghost use Rattle.ct_base.specs.View.{inode_count, view};
 ghost use Rattle.ct_base.specs.Walk.{page_at};
 ghost use Rattle.ct_base.specs.Wants.{missing};
-ghost use Rattle.ct_call.specs.Mounted.{IsAtRest};
+ghost use Rattle.ct_commit.specs.Rest.{IsAtRest, IsMounted, KeepsTables};
 ghost use Rattle.ct_call.specs.Placed.{IsMoved};
 ghost use Rattle.ct_call.specs.Plans.{Fits, level_of};
-ghost use Rattle.ct_call.specs.Rooms.{KeepsTables};
 ghost use Rattle.ct_enter.specs.Entry.{KeepsPart};
 ghost use Rattle.ct_enter.specs.Makes.{IsFreshName};
 ghost use Rattle.ct_enter.specs.Plans.{IsEntryPlan};
-ghost use Rattle.ct_enter.specs.Spots.{IsNextSlot};
-ghost use Rattle.ct_frames.specs.Agrees.{Agrees};
+ghost use Rattle.ct_find.specs.Spots.{IsNextSlot};
 ghost use Rattle.ct_pm.specs.Device.{NothingPending};
 ghost use Rattle.ct_pm.specs.Phase.{Phase};
 ghost use Rattle.ct_record.specs.Seen.{device_behind};
-ghost use Rattle.ct_remove.specs.Found.{IsLeaf};
+ghost use Rattle.ct_find.specs.Entries.{IsLeaf};
 ghost use Rattle.ct_tree.specs.Lands.{files};
 ghost use Rattle.ct_rename.specs.Moves.{CanLeave, CanMove, HasTree, TurnedOrNot, moved, replaced};
 
@@ -27,12 +25,11 @@ use crate::record::{move_now, replace_now};
 use ct_base::{NO_PARTITION, PAGE_BYTES, STAGING_SLOT};
 use ct_call::{CallPlan, room};
 use ct_cut::prepare_whole;
-use ct_enter::Spot;
+use ct_find::{Entry, Spot};
 use ct_frames::Frames;
 use ct_inode::get;
 use ct_pm::Pm;
 use ct_record::Broken;
-use ct_remove::Entry;
 use ct_walk::unstage;
 
 /// Moves an entry to a slot that is there and empty, or gives it another name in its own.
@@ -75,9 +72,7 @@ pub(crate) fn move_there<D: Pm>(
     spot: &Spot<'_>,
     plan: &CallPlan,
 ) -> Result<D, Broken<D>>
-    requires rest { IsAtRest (D.words dev) }
-    requires agrees { Agrees (D.words dev) frames.old }
-    requires settled { NothingPending (D.told dev) }
+    requires mounted { IsMounted (D.words dev) (D.told dev) frames.old }
     requires can { CanLeave (D.words dev) entry.dir entry.offset entry.number }
     requires next { IsNextSlot (D.words dev) spot.now.dir spot.now.inode spot.now.offset }
     requires fresh { IsFreshName (D.words dev) spot.now.dir spot.now.name.now }
@@ -89,9 +84,7 @@ pub(crate) fn move_there<D: Pm>(
     ensures moved { OnOk result ((level : ℕ) → level_of plan.now.growth ≡ Some level → IsMoved (λ v. ⊥) (D.words dev) (D.words (device_behind result)) spot.now.dir level) }
     ensures taken { OnOk result (length frames.new.free + missing (D.words dev) plan.now.wants ≡ length frames.old.free) }
     ensures counted { OnOk result (inode_count (D.words (device_behind result)) ≡ inode_count (D.words dev)) }
-    ensures rest { OnOk result (IsAtRest (D.words (device_behind result))) }
-    ensures agrees { OnOk result (Agrees (D.words (device_behind result)) frames.new) }
-    ensures settled { OnOk result (NothingPending (D.told (device_behind result))) }
+    ensures mounted { OnOk result (IsMounted (D.words (device_behind result)) (D.told (device_behind result)) frames.new) }
     ensures phase { Phase (TurnedOrNot (files (D.words dev)) (moved (files (D.words dev)) entry.dir entry.offset spot.now.dir spot.now.offset entry.number spot.now.name.now)) MOST_RENAME_PAIRS
         (D.told dev) (D.told (device_behind result)) (D.words (device_behind result)) }
     ensures cause { HasCause (D.faults dev) (D.faults (device_behind result)) result }
@@ -116,9 +109,7 @@ fn replace_whole<D: Pm>(
     level: u64,
     name: &[u8],
 ) -> Result<D, Broken<D>>
-    requires rest { IsAtRest (D.words dev) }
-    requires agrees { Agrees (D.words dev) frames.old }
-    requires settled { NothingPending (D.told dev) }
+    requires mounted { IsMounted (D.words dev) (D.told dev) frames.old }
     requires can { CanMove (D.words dev) entry.dir entry.offset gone.dir gone.offset entry.number name.now }
     requires leaf { IsLeaf (files (D.words dev)) gone.dir gone.offset gone.number }
     requires away { entry.dir ≡ gone.dir → entry.offset ≢ gone.offset }
@@ -129,9 +120,7 @@ fn replace_whole<D: Pm>(
 
     ensures objects { OnOk result (files (D.words (device_behind result)) ≡ replaced (files (D.words dev)) entry.dir entry.offset gone.dir gone.offset entry.number gone.number name.now) }
     ensures counted { OnOk result (inode_count (D.words (device_behind result)) ≡ inode_count (D.words dev)) }
-    ensures rest { OnOk result (IsAtRest (D.words (device_behind result))) }
-    ensures agrees { OnOk result (Agrees (D.words (device_behind result)) frames.new) }
-    ensures settled { OnOk result (NothingPending (D.told (device_behind result))) }
+    ensures mounted { OnOk result (IsMounted (D.words (device_behind result)) (D.told (device_behind result)) frames.new) }
     ensures phase { Phase (TurnedOrNot (files (D.words dev)) (replaced (files (D.words dev)) entry.dir entry.offset gone.dir gone.offset entry.number gone.number name.now)) MOST_RENAME_PAIRS
         (D.told dev) (D.told (device_behind result)) (D.words (device_behind result)) }
     ensures taken { OnOk result (length frames.old.free ≤ length frames.new.free + missing (D.words dev) (give_up_wants (inode_at (view (D.words dev)) gone.number))) }
@@ -158,9 +147,7 @@ pub(crate) fn replace<D: Pm>(
     level: u64,
     name: &[u8],
 ) -> Result<D, Broken<D>>
-    requires rest { IsAtRest (D.words dev) }
-    requires agrees { Agrees (D.words dev) frames.old }
-    requires settled { NothingPending (D.told dev) }
+    requires mounted { IsMounted (D.words dev) (D.told dev) frames.old }
     requires can { CanMove (D.words dev) entry.dir entry.offset gone.dir gone.offset entry.number name.now }
     requires leaf { IsLeaf (files (D.words dev)) gone.dir gone.offset gone.number }
     requires away { entry.dir ≡ gone.dir → entry.offset ≢ gone.offset }
@@ -170,9 +157,7 @@ pub(crate) fn replace<D: Pm>(
 
     ensures objects { OnOk result (files (D.words (device_behind result)) ≡ replaced (files (D.words dev)) entry.dir entry.offset gone.dir gone.offset entry.number gone.number name.now) }
     ensures counted { OnOk result (inode_count (D.words (device_behind result)) ≡ inode_count (D.words dev)) }
-    ensures rest { OnOk result (IsAtRest (D.words (device_behind result))) }
-    ensures agrees { OnOk result (Agrees (D.words (device_behind result)) frames.new) }
-    ensures settled { OnOk result (NothingPending (D.told (device_behind result))) }
+    ensures mounted { OnOk result (IsMounted (D.words (device_behind result)) (D.told (device_behind result)) frames.new) }
     ensures phase { Phase (TurnedOrNot (files (D.words dev)) (replaced (files (D.words dev)) entry.dir entry.offset gone.dir gone.offset entry.number gone.number name.now)) MOST_RENAME_PAIRS
         (D.told dev) (D.told (device_behind result)) (D.words (device_behind result)) }
     ensures taken { OnOk result (length frames.old.free ≤ length frames.new.free + missing (D.words dev) (give_up_wants (inode_at (view (D.words dev)) gone.number))) }

@@ -18,10 +18,11 @@ use ct_base::{
     ENTRY_BYTES, ENTRY_WORDS, Inode, MOST_INODES, MOST_LONG_PAIRS, NO_PARTITION, PAGE_BYTES,
 };
 use ct_dir::{clear, set};
-use ct_enter::{Spot, raise_size};
+use ct_enter::raise_size;
+use ct_find::{Entry, Spot};
 use ct_pm::{Pm, PmFault};
 use ct_record::Draft;
-use ct_remove::{Entry, draft_removal};
+use ct_remove::draft_removal;
 
 /// The most pairs of a move: the words of two slots, and the size of the directory.
 pub const MOST_MOVE_PAIRS: u64 = 65;

@@ -9,16 +9,15 @@ ghost use Rattle.ct_base.specs.Path.{names_of};
 ghost use Rattle.ct_base.specs.View.{view};
 ghost use Rattle.ct_base.specs.Walk.{AreTables};
 ghost use Rattle.ct_call.specs.Calls.{StandsFor};
-ghost use Rattle.ct_call.specs.Mounted.{IsAtRest};
+ghost use Rattle.ct_commit.specs.Rest.{IsAtRest};
 ghost use Rattle.ct_rename.specs.Forms.{AreBelow, IsForm, IsKindOf, IsTarget, Meets};
 
 use crate::below::lies_below;
 use ct_base::{DIRECTORY_KIND, Inode, MOST_INODES};
-use ct_enter::{Kind, Spot, find_spot};
+use ct_find::{Entry, Kind, Spot, check_kind, find_entry, find_spot};
 use ct_inode::get;
 use ct_path::{Names, parse};
 use ct_pm::Pm;
-use ct_remove::{Entry, check_kind, find_entry};
 use ct_tree::Refusal;
 
 /// What a new name meets.

@@ -15,11 +15,10 @@ ghost use Rattle.ct_rename.specs.Moves.{CanMove, HasTree, Moved, Replaces, Turne
 
 use crate::draft::{MOST_MOVE_PAIRS, MOST_RENAME_PAIRS, draft_move, draft_replace};
 use ct_base::{NO_PARTITION, PAGE_BYTES};
-use ct_enter::Spot;
+use ct_find::{Entry, Spot};
 use ct_inode::get;
 use ct_pm::Pm;
 use ct_record::{Broken, Draft, Idle, conclude};
-use ct_remove::Entry;
 
 /// Moves an entry to an empty slot, or gives it another name in its own, as one record.
 pub(crate) fn move_now<D: Pm>(dev: D, entry: Entry, spot: &Spot<'_>) -> Result<D, Broken<D>>

@@ -4,7 +4,8 @@ use Rattle.std.specs.Prelude.{◌↔◌, IsSomeAnd}
 use Rattle.ct_base.specs.Format.{IsFormatted}
 use Rattle.ct_call.specs.Seen.{ready_in}
 use Rattle.ct_call.specs.declared.mount.Why.{Why}
-use Rattle.ct_call.specs.declared.mount.Why.TheVariants.{Damage, Fault, Memory}
+use Rattle.ct_call.specs.declared.mount.Why.TheVariants.{Damage}
+use Rattle.ct_chain.proofs.Chained.{stopped_still}
 use Rattle.ct_format.specs.Formatting.{Formats, IsFormatWord}
 use Rattle.ct_format.specs.Made.{IsMissized, IsNew}
 use Rattle.ct_fs.specs.Mounts.{fs_dev}
@@ -12,21 +13,13 @@ use Rattle.ct_fs.specs.declared.system.Fs.{Fs}
 use Rattle.ct_pm.specs.Device.{SameOff}
 use Rattle.ct_pm.specs.Images.{History}
 use Rattle.ct_script.specs.Script.{whole}
+use Rattle.ct_script.specs.Texts.{reply_line}
 use Rattle.ct_tree.specs.Tree.{Tree}
 use Rattle.ct_shell.proofs.Kept.{dev_moment, ready_moment, some_and}
-use Rattle.ct_shell.proofs.Serves.{stopped_still}
-use Rattle.ct_shell.specs.Moments.{Moment, moment, moment_in}
-use Rattle.ct_run.specs.Ends.{IsMade, IsServed, Waits, status_of}
+use Rattle.ct_shell.specs.Moments.{IsBegunOf, Moment, Passed, moment, moment_in}
+use Rattle.ct_run.specs.Ends.{IsMade, Waits, status_of}
 use Rattle.ct_run.specs.Images.{IsRefusal}
 use Rattle.ct_run.specs.declared.status.Status.{Status}
-use Rattle.ct_run.specs.declared.status.Status.TheVariants.{DeviceFault, NotImage}
-
-pub not_image : (why : Why) (status : Status) (rule pages : ℕ) → status ≡ status_of why → status ≡ NotImage rule → ((r : ℕ) → (Some why ≡ Some (Damage r)) ↔ ((r ≡ 0) × IsMissized pages)) → (rule ≡ 0) × IsMissized pages
-not_image (Damage r) status rule pages of is size =
-    let same : r ≡ rule = cc in
-    (size rule).0 (ap (λ n. Some (Damage n)) same)
-not_image Fault status rule pages of is size = absurd (cc)
-not_image Memory status rule pages of is size = absurd (cc)
 
 -- want of memory comes before the size is looked at, or not
 pub refused_size : (why : Why) (status : Status) (rule pages : ℕ) → status ≡ status_of why → (rule ≡ 0) × IsMissized pages → ((r : ℕ) → (Some why ≡ Some (Damage r)) ↔ ((r ≡ 0) × IsMissized pages)) → IsRefusal rule status
@@ -35,15 +28,9 @@ refused_size why status rule pages of missized size =
     let same : why ≡ Damage rule = cc in
     inl (of ∙ ap status_of same)
 
--- a file system that was to be served was not made because the device failed
-pub not_made : (why : Why) (status : Status) → status ≡ status_of why → IsServed status → status ≡ DeviceFault
-not_made (Damage r) status is served = absurd (subst IsServed is served)
-not_made Fault status is served = is
-not_made Memory status is served = absurd (subst IsServed is served)
-
 -- no item was served
 pub waits : (c : ℕ) (t : Tree) (given : List ℕ) (a : Option (List ℕ)) (f : Moment) → Waits c t given a a f f
-waits c t given a f = record { stopped = stopped_still c t (whole given) a f; unwritten = refl; still = refl }
+waits c t given a f = record { stopped = stopped_still (Passed c) IsBegunOf reply_line t (whole given) a f; unwritten = refl; still = refl }
 
 -- a file system that was made stands from then on
 pub made_at : {D : Type 0} {bound : _} (inodes pages : ℕ) (fs : Fs D bound) (words : List ℕ) (old : Option History) → IsSomeAnd (ready_in fs.state) (λ now. IsNew (bound.words now.dev) now.frames pages inodes)

@@ -4,6 +4,8 @@ use Rattle.std.specs.Io.KnownBytes.{Consumes, IsAtEnd}
 use Rattle.std.specs.Prelude.{IfSome, IsSomeAnd}
 use Rattle.std.specs.declared.result.Result.{Result}
 use Rattle.ct_base.specs.Causes.{Rose}
+use Rattle.ct_call.specs.Calls.{Keeps}
+use Rattle.ct_call.specs.Seen.{faults_in}
 use Rattle.ct_call.specs.declared.mount.State.{State}
 use Rattle.ct_pm.proofs.OneWord.{Replays}
 use Rattle.ct_script.specs.Script.{items}
@@ -16,20 +18,21 @@ use Rattle.ct_shell.specs.declared.script.ReadEnd.{ReadEnd}
 use Rattle.ct_shell.specs.declared.script.ReadEnd.TheVariants.{Fault, TooLong}
 use Rattle.ct_tree.specs.Tree.{Tree}
 use Rattle.ct_run.proofs.Ends.{waits}
-use Rattle.ct_run.specs.Ends.{Ends, HasCauses, IsCutShort, IsServed, IsUnserved, served_status, unread_status}
-use Rattle.ct_run.specs.declared.status.Status.TheVariants.{TooLong as WasTooLong}
+use Rattle.ct_run.specs.Carried.{IsStanding, WorksAs, streams}
+use Rattle.ct_run.specs.Ways.{script}
+use Rattle.ct_run.specs.Ends.{Ends, HasCauses, IsServed, IsUnserved, served_status, unread_status}
 
 -- a source that gave so many bytes had no fewer
-pub gave_long : (rest rest' : Option (List ℕ)) (given : List ℕ) → Consumes rest rest' given → 16777216 < length given → IfSome rest (λ script. 16777216 < length script)
+pub gave_long : (rest rest' : Option (List ℕ)) (given : List ℕ) → Consumes rest rest' given → 16777216 < length given → IfSome rest (λ text. 16777216 < length text)
 gave_long None rest' given gave long = tt
-gave_long (Some script) None given gave long = absurd gave
-gave_long (Some script) (Some left) given gave long = omega (arith, ap length gave, length-append given left, long)
+gave_long (Some text) None given gave long = absurd gave
+gave_long (Some text) (Some left) given gave long = omega (arith, ap length gave, length-append given left, long)
 
 -- and one that is at its end had no more than it gave
-pub gave_short : (rest rest' : Option (List ℕ)) (given : List ℕ) → Consumes rest rest' given → IsAtEnd rest' → length given ≤ 16777216 → IsSomeAnd rest (λ script. 16777216 < length script) → ⊥
+pub gave_short : (rest rest' : Option (List ℕ)) (given : List ℕ) → Consumes rest rest' given → IsAtEnd rest' → length given ≤ 16777216 → IsSomeAnd rest (λ text. 16777216 < length text) → ⊥
 gave_short None rest' given gave end short long = long
-gave_short (Some script) None given gave end short long = gave
-gave_short (Some script) (Some left) given gave end short long = omega (arith, ap length gave, length-append given left, ap length end, short, long)
+gave_short (Some text) None given gave end short long = gave
+gave_short (Some text) (Some left) given gave end short long = omega (arith, ap length gave, length-append given left, ap length end, short, long)
 
 module _ (end : ReadEnd) where
   -- what was given of a script that was not read whole
@@ -49,17 +52,9 @@ pub unread_served : (end : ReadEnd) → IsServed (unread_status end)
 unread_served Fault = tt
 unread_served TooLong = tt
 
-pub unread_cut : (end : ReadEnd) → IsCutShort (unread_status end)
-unread_cut Fault = tt
-unread_cut TooLong = tt
-
 pub unread_causes : (end : ReadEnd) (device source source' sink : ℕ) → (end ≡ Fault → Rose source source') → HasCauses (unread_status end) device device source source' sink sink
 unread_causes Fault device source source' sink rose = record { device_fault = λ is. absurd (cc); read_fault = λ is. rose refl; write_fault = λ is. absurd (cc) }
 unread_causes TooLong device source source' sink rose = record { device_fault = λ is. absurd (cc); read_fault = λ is. absurd (cc); write_fault = λ is. absurd (cc) }
-
-pub unread_long : (end : ReadEnd) (rest rest' : Option (List ℕ)) (buffer : List ℕ) → length buffer ≡ 16777217 → Gave end rest rest' buffer → unread_status end ≡ WasTooLong → IfSome rest (λ script. 16777216 < length script)
-unread_long Fault rest rest' buffer long gave is = absurd (cc)
-unread_long TooLong rest rest' buffer long gave is = gave_long rest rest' buffer (gave.1 refl) (omega (arith, long))
 
 module _ {T : Type 0} where
   pub served_served : (r : Result T ServeEnd) → IsServed (served_status r)
@@ -71,11 +66,6 @@ module _ {T : Type 0} where
   served_begun (Ok done) unserved = unserved
   served_begun (Err Device) unserved = unserved
   served_begun (Err Output) unserved = unserved
-
-  pub served_short : (r : Result T ServeEnd) → served_status r ≡ WasTooLong → ⊥
-  served_short (Ok done) is = absurd (cc)
-  served_short (Err Device) is = absurd (cc)
-  served_short (Err Output) is = absurd (cc)
 
   pub served_causes : (r : Result T ServeEnd) (device device' source source' sink sink' : ℕ) → (r ≡ Err Device → Rose device device') → (r ≡ Err Output → Rose sink sink')
       → HasCauses (served_status r) device device' source source' sink sink'
@@ -96,3 +86,28 @@ module _ {T : Type 0} where
       record { given = given; gave = gave; leaves = ((end, short), serves.stopped) }
   served_ends (Err Output) c t before after replays rest rest' old new given gave end short serves =
       record { given = given; gave = gave; leaves = ((end, short), serves.stopped) }
+
+-- what is left of a script that was not read whole
+pub works_unread : {D S O : Type 0} {bound : _} (end : ReadEnd) (state : Option (State D bound)) (input input' : S) (out : O) (rest rest' : Option (List ℕ)) (buffer : List ℕ) (old : Option (List ℕ)) (source source' sink : ℕ) → length buffer ≡ 16777217 → Gave end rest rest' buffer → (end ≡ Fault → Rose source source')
+    → WorksAs script (unread_status end) state (moment_in state) (faults_in state) (streams input input' out out rest rest' old old source source' sink sink)
+works_unread end state input input' out rest rest' buffer old source source' sink long gave rose = record {
+  served = unread_served end;
+  leaves = λ c t keeps. unread_ends end c t rest rest' buffer old (moment_in state) long gave;
+  unwritten = λ is unserved. refl;
+  later = omega arith;
+  causes = unread_causes end (faults_in state) source source' sink rose;
+}
+
+-- and of one that was served
+pub works_served : {D S O T : Type 0} {bound : _} (r : Result T ServeEnd) (before after : Option (State D bound)) (replays : (dev : D) → Replays (bound.told dev) (bound.words dev)) (stands : IsStanding before) (input input' : S) (out out' : O) (rest rest' old new : Option (List ℕ)) (source source' sink sink' : ℕ)
+    (given : List ℕ) → Consumes rest rest' given → IsAtEnd rest' → length given ≤ 16777216 → ((c : ℕ) (t : Tree) → Keeps c before t → Serves c t (items given) before after old new r) → (r ≡ Err Output → Rose sink sink')
+    → WorksAs script (served_status r) before (moment_in after) (faults_in after) (streams input input' out out' rest rest' old new source source' sink sink')
+works_served r before after replays stands input input' out out' rest rest' old new source source' sink sink' given gave end short serves rose =
+    let one = serves stands.0 stands.1.0 stands.1.1 in
+    record {
+      served = served_served r;
+      leaves = λ c t keeps. served_ends r c t before after replays rest rest' old new given gave end short (serves c t keeps);
+      unwritten = λ is unserved. absurd (served_begun r unserved);
+      later = one.later;
+      causes = served_causes r (faults_in before) (faults_in after) source source' sink sink' (λ is. one.fault Device is refl) rose;
+    }

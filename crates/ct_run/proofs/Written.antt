@@ -1,14 +1,20 @@
 -- What was written of a tree that was dumped, by how the run ends.
-use Rattle.std.proofs.Common.{◌≡◌, ℕ, List, Option, Ok, Err, true≢false, sym, subst, ◌∙◌}
+use Rattle.std.proofs.Common.{◌≡◌, ℕ, List, Option, Ok, Err, true≢false, refl, sym, subst, ◌∙◌, arith}
 use Rattle.std.specs.declared.result.Result.{Result}
 use Rattle.ct_base.specs.Causes.{Rose}
+use Rattle.ct_call.specs.Calls.{Keeps}
+use Rattle.ct_call.specs.Seen.{faults_in}
+use Rattle.ct_call.specs.declared.mount.State.{State}
 use Rattle.ct_dump.specs.Dumped.{placed_below}
 use Rattle.ct_dump.specs.Dumps.{DumpAppends, DumpHasCause}
 use Rattle.ct_dump.specs.declared.fault.DumpFault.{DumpFault}
 use Rattle.ct_dump.specs.declared.fault.DumpFault.TheVariants.{Write, TooLong as PathTooLong}
+use Rattle.ct_shell.specs.Moments.{moment_in}
 use Rattle.ct_tree.specs.Tree.{Tree}
+use Rattle.ct_run.specs.Carried.{IsStanding, WorksAs, streams}
 use Rattle.ct_run.specs.Dumps.{HasLongPath, HasShortPaths, WroteDump, dump_status}
 use Rattle.ct_run.specs.Ends.{IsServed}
+use Rattle.ct_run.specs.Ways.{dump}
 use Rattle.ct_run.specs.declared.status.Status.{Status}
 use Rattle.ct_run.specs.declared.status.Status.TheVariants.{WriteFault}
 
@@ -28,9 +34,20 @@ module _ {A : Type 0} where
   dump_cause (Err PathTooLong) before now h is = absurd (cc)
   dump_cause (Err Write) before now h is = h.1
 
--- what was written where the run ended so
-pub wrote_at : {status other : Status} (t : Tree) (a b : Option (List ℕ)) → status ≡ other → WroteDump status t a b → WroteDump other t a b
-wrote_at t a b is w = subst (λ s. WroteDump s t a b) is w
+-- what a dump leaves, with the input as it was and no step
+pub works_dump : {D S O : Type 0} {bound : _} (status : Status) (state : Option (State D bound)) (stands : IsStanding state) (input : S) (out out' : O) (rest old new : Option (List ℕ)) (source sink sink' : ℕ) → IsServed status → ((c : ℕ) (t : Tree) → Keeps c state t → WroteDump status t old new)
+    → (status ≡ WriteFault → Rose sink sink') → WorksAs dump status state (moment_in state) (faults_in state) (streams input input out out' rest rest old new source source sink sink')
+works_dump status state stands input out out' rest old new source sink sink' served wrote write = record {
+  served = served;
+  leaves = λ c t keeps. (refl, wrote c t keeps, refl);
+  unwritten = λ is. absurd is;
+  later = omega arith;
+  causes = record {
+    device_fault = λ is. absurd (subst (λ s. WroteDump s stands.1.0 old new) is (wrote stands.0 stands.1.0 stands.1.1));
+    read_fault = λ is. absurd (subst (λ s. WroteDump s stands.1.0 old new) is (wrote stands.0 stands.1.0 stands.1.1));
+    write_fault = write;
+  };
+}
 
 pub long_or_short : (t : Tree) → HasLongPath t → HasShortPaths t → ⊥
 long_or_short t long short = true≢false (sym short ∙ long)

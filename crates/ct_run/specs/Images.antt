@@ -2,17 +2,16 @@
 use Rattle.std.specs.Prelude.{◌≡◌, ◌⊎◌, ℕ, ◌≤◌, List, Option, Some, None}
 use Rattle.ct_base.specs.Head.{HasHead}
 use Rattle.ct_base.specs.State.{SameState}
-use Rattle.ct_format.specs.Made.{IsMissized}
-use Rattle.ct_mount.specs.Mounting.{IsFirst, IsSettledFrom, Recovers}
+use Rattle.ct_mount.specs.Mounting.{IsSettledFrom, Recovers}
 use Rattle.ct_pm.specs.Device.{LeavesOnly, MakesOnly}
 use Rattle.ct_recover.specs.Settling.{Settling}
 use Rattle.ct_tree.specs.Lands.{Lands}
 use Rattle.ct_tree.specs.Tree.{Dir, Tree, none}
 use Rattle.ct_shell.specs.Moments.{Begins, Moment, RestsOn}
 use Rattle.ct_run.specs.Ends.{Ends, IsMade, IsUnused, Unmade}
-use Rattle.ct_run.specs.Words.{TakesImage}
+use Rattle.ct_run.specs.Ways.{Bars}
+use Rattle.ct_run.specs.Words.{TakesImage, way_of}
 use Rattle.ct_run.specs.declared.command.Command.{Command}
-use Rattle.ct_run.specs.declared.command.Command.TheVariants.{Mem, Run, Format, Gen, Dump}
 use Rattle.ct_run.specs.declared.status.Status.{Status}
 use Rattle.ct_run.specs.declared.status.Status.TheVariants.{Done, DeviceFault, NoMemory, NotImage}
 
@@ -57,11 +56,7 @@ EndsFormat inodes pages status from to = Unmade status from to ⊎ Formatted ino
 -- fails, one that is to be formatted by its size.
 abbrev pub IsNoImage : Option Command → ℕ → List ℕ → ℕ → Type 0
 IsNoImage None pages words rule = ⊥
-IsNoImage (Some Mem) pages words rule = (rule ≡ 0) × IsMissized pages
-IsNoImage (Some Run) pages words rule = IsFirst words rule
-IsNoImage (Some (Format inodes)) pages words rule = (rule ≡ 0) × IsMissized pages
-IsNoImage (Some (Gen number count)) pages words rule = (rule ≡ 0) × IsMissized pages
-IsNoImage (Some Dump) pages words rule = IsFirst words rule
+IsNoImage (Some command) pages words rule = Bars (way_of command) pages words rule
 
 -- how a run ends then: memory may run out before, and where the rule is not one of the head the device may fail
 abbrev pub IsRefusal : ℕ → Status → Type 0

@@ -1,6 +1,9 @@
+pub mod Carried
 pub mod Dumps
 pub mod Ends
 pub mod Images
 pub mod Limits
+pub mod Opened
+pub mod Ways
 pub mod Words
 pub mod Workloads

@@ -4,24 +4,29 @@ use Rattle.ct_tree.specs.Lands.{Lands}
 use Rattle.ct_tree.specs.Ordered.{IsTree}
 use Rattle.ct_tree.specs.Tree.{Tree}
 use Rattle.ct_run.specs.Dumps.{HasLongPath, HasShortPaths}
+use Rattle.ct_run.specs.Ways.{Work, calls, dump, nothing, script}
+use Rattle.ct_run.specs.Words.{work_of}
 use Rattle.ct_run.specs.declared.serving.TheConstants.{SCRIPT_BYTES}
 use Rattle.ct_run.specs.declared.command.Command.{Command}
-use Rattle.ct_run.specs.declared.command.Command.TheVariants.{Mem, Run, Format, Gen, Dump}
 
--- what was too long where a run ends so, by the input and the words of the device
+-- what was too long where a run ends so, by what it does, the input and the words of the device
+abbrev pub WasTooLongFor : Work → Option (List ℕ) → List ℕ → Type 0
+WasTooLongFor script input words = IfSome input (λ text. SCRIPT_BYTES < length text)
+WasTooLongFor nothing input words = ⊥
+WasTooLongFor (calls number count) input words = ⊥
+WasTooLongFor dump input words = (t : Tree) → IsTree t → Lands words t → HasLongPath t
+
 abbrev pub WasTooLong : Option Command → Option (List ℕ) → List ℕ → Type 0
 WasTooLong None input words = ⊥
-WasTooLong (Some Mem) input words = IfSome input (λ script. SCRIPT_BYTES < length script)
-WasTooLong (Some Run) input words = IfSome input (λ script. SCRIPT_BYTES < length script)
-WasTooLong (Some (Format inodes)) input words = ⊥
-WasTooLong (Some (Gen number count)) input words = ⊥
-WasTooLong (Some Dump) input words = (t : Tree) → IsTree t → Lands words t → HasLongPath t
+WasTooLong (Some command) input words = WasTooLongFor (work_of command) input words
 
 -- nothing is too long
+abbrev pub IsShortEnoughFor : Work → Option (List ℕ) → List ℕ → Type 0
+IsShortEnoughFor script input words = IsSomeAnd input (λ text. length text ≤ SCRIPT_BYTES)
+IsShortEnoughFor nothing input words = Unit {0}
+IsShortEnoughFor (calls number count) input words = Unit {0}
+IsShortEnoughFor dump input words = (t : Tree) → IsTree t → Lands words t → HasShortPaths t
+
 abbrev pub IsShortEnough : Option Command → Option (List ℕ) → List ℕ → Type 0
 IsShortEnough None input words = Unit {0}
-IsShortEnough (Some Mem) input words = IsSomeAnd input (λ script. length script ≤ SCRIPT_BYTES)
-IsShortEnough (Some Run) input words = IsSomeAnd input (λ script. length script ≤ SCRIPT_BYTES)
-IsShortEnough (Some (Format inodes)) input words = Unit {0}
-IsShortEnough (Some (Gen number count)) input words = Unit {0}
-IsShortEnough (Some Dump) input words = (t : Tree) → IsTree t → Lands words t → HasShortPaths t
+IsShortEnough (Some command) input words = IsShortEnoughFor (work_of command) input words

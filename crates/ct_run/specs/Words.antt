@@ -4,8 +4,11 @@ use Rattle.std.specs.Str.{bytes_eq}
 use Rattle.ct_base.specs.declared.layout.TheConstants.{LEAST_INODES, MOST_INODES}
 use Rattle.ct_gen.specs.declared.calls.TheConstants.{MOST_DRAWS}
 use Rattle.ct_script.specs.Grammar.{number_of}
+use Rattle.ct_run.specs.Ways.{IsMounting, IsScript, IsWithinWay, IsWithinWork, Work, calls, dump, nothing, script}
 use Rattle.ct_run.specs.declared.command.Command.{Command}
 use Rattle.ct_run.specs.declared.command.Command.TheVariants.{Mem, Run, Format, Gen, Dump}
+use Rattle.ct_run.specs.declared.opening.Way.{Way}
+use Rattle.ct_run.specs.declared.opening.Way.TheVariants.{Making, Mounting}
 
 -- how many inodes the file system of mem has
 abbrev pub mem_inodes : ℕ
@@ -45,20 +48,33 @@ command_of (word ∷ image ∷ []) = image_command word
 command_of (word ∷ first ∷ second ∷ []) = long_command word first second
 command_of (word ∷ first ∷ second ∷ other ∷ words) = None
 
+-- how the file system of a command comes to stand
+abbrev pub way_of : Command → Way
+way_of Mem = Making mem_inodes
+way_of Run = Mounting
+way_of (Format inodes) = Making inodes
+way_of (Gen number count) = Making mem_inodes
+way_of Dump = Mounting
+
+-- and what it does over it
+abbrev pub work_of : Command → Work
+work_of Mem = script
+work_of Run = script
+work_of (Format inodes) = nothing
+work_of (Gen number count) = calls number count
+work_of Dump = dump
+
+-- the numbers of a command are within their bounds
+abbrev pub AreWithin : Option Command → Type 0
+AreWithin None = Unit {0}
+AreWithin (Some command) = IsWithinWay (way_of command) × IsWithinWork (work_of command)
+
 -- the command serves the script of the input
 abbrev pub TakesScript : Option Command → Type 0
 TakesScript None = ⊥
-TakesScript (Some Mem) = Unit {0}
-TakesScript (Some Run) = Unit {0}
-TakesScript (Some (Format inodes)) = ⊥
-TakesScript (Some (Gen number count)) = ⊥
-TakesScript (Some Dump) = ⊥
+TakesScript (Some command) = IsScript (work_of command)
 
 -- the command mounts the file system that the device holds
 abbrev pub TakesImage : Option Command → Type 0
 TakesImage None = ⊥
-TakesImage (Some Mem) = ⊥
-TakesImage (Some Run) = Unit {0}
-TakesImage (Some (Format inodes)) = ⊥
-TakesImage (Some (Gen number count)) = ⊥
-TakesImage (Some Dump) = Unit {0}
+TakesImage (Some command) = IsMounting (way_of command)

@@ -1,11 +1,15 @@
 // Which words are a command.
 ghost use Rattle.std.specs.Prelude.{◌≡◌, map, option_and_then, string_bytes};
 ghost use Rattle.ct_script.specs.Grammar.{number_of};
-ghost use Rattle.ct_run.specs.Words.{command_of, format_of, gen_of, gen_with, image_command, long_command};
+ghost use Rattle.ct_run.specs.Words.{command_of, format_of, gen_of, gen_with, image_command, long_command, way_of};
 
+use crate::opening::Way;
 use ct_base::{LEAST_INODES, MOST_INODES};
 use ct_gen::MOST_DRAWS;
 use ct_script::number_of;
+
+/// How many inodes the file system of `mem` has.
+const INODES: u64 = 1024;
 
 /// What a run does of its device.
 #[derive(Clone, Copy)]
@@ -25,6 +29,24 @@ pub enum Command {
 
     /// Mounts the file system that it holds, and writes a script that makes its tree.
     Dump,
+}
+
+impl Command {
+    /// How its file system comes to stand.
+    pub(crate) fn way(self) -> Way
+        ensures { result ≡ way_of self }
+    {
+        match self {
+            Command::Mem => Way::Making { inodes: INODES },
+            Command::Run => Way::Mounting,
+            Command::Format { inodes } => Way::Making { inodes },
+            Command::Gen {
+                number: _,
+                count: _,
+            } => Way::Making { inodes: INODES },
+            Command::Dump => Way::Mounting,
+        }
+    }
 }
 
 /// The command that the words are.

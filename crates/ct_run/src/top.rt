@@ -1,148 +1,49 @@
 // The top call.
-ghost use Rattle.std.specs.Prelude.{◌≡◌, ◌≢◌, ◌⊎◌, ◌<◌, ◌≤◌, ◌↔◌, ℕ, None, Some, IsSome, IsSomeAnd, map, length, string_bytes, IfSome};
+ghost use Rattle.std.specs.Prelude.{◌≡◌, ◌<◌, ◌≤◌, ◌↔◌, ℕ, None, Some, IsSome, IsSomeAnd, map, length, string_bytes};
 ghost use Rattle.ct_base.specs.Causes.{Rose};
 ghost use Rattle.ct_base.specs.View.{inode_count};
-ghost use Rattle.ct_format.specs.Made.{IsMissized};
-ghost use Rattle.ct_mount.specs.Mounting.{IsFirst};
 ghost use Rattle.ct_pm.specs.Device.{NothingPending};
 ghost use Rattle.ct_tree.specs.Lands.{Lands};
 ghost use Rattle.ct_tree.specs.Ordered.{IsTree};
 ghost use Rattle.ct_tree.specs.Tree.{Tree};
+ghost use Rattle.ct_run.specs.Carried.{RunsAs, streams};
 ghost use Rattle.ct_run.specs.Dumps.{EndsDump};
 ghost use Rattle.ct_run.specs.Ends.{EndsMem, HasCauses, IsCutShort, IsDoneOrNoMemory, IsServed, IsUnbegun, IsUnserved, IsUnused};
-ghost use Rattle.ct_run.specs.Images.{EndsFormat, EndsRun, IsNoImage, IsRefusal, IsUntouched, Settles};
+ghost use Rattle.ct_run.specs.Images.{EndsFormat, EndsRun, IsNoImage, IsRefusal, IsUntouched, Mounts};
 ghost use Rattle.ct_run.specs.Limits.{IsShortEnough, WasTooLong};
-ghost use Rattle.ct_run.specs.Words.{TakesScript, command_of};
+ghost use Rattle.ct_run.specs.Opened.{devices};
+ghost use Rattle.ct_run.specs.Words.{AreWithin, TakesImage, TakesScript, command_of};
 ghost use Rattle.ct_run.specs.Workloads.{EndsGen};
 ghost use Rattle.ct_run.specs.declared.command.Command.{Command};
 ghost use Rattle.ct_shell.specs.Moments.{moment};
 
 use crate::command::{Command, command_of};
-use crate::dumping::dump;
-use crate::serving::{Buffers, SCRIPT_BYTES, serve_on};
+use crate::job::Job;
+use crate::opening::open;
+use crate::serving::SCRIPT_BYTES;
 use crate::status::{Outcome, Status, refused};
-use crate::working::{Page, work_on};
-use ct_base::{LEAST_INODES, MOST_INODES, Sink, Source};
-use ct_fs::{format, mount};
-use ct_gen::MOST_DRAWS;
+use ct_base::{Sink, Source};
 use ct_pm::Pm;
 use std::alloc::Global;
 
-/// How many inodes the file system of `mem` has.
-const INODES: u64 = 1024;
-
-/// Makes a file system of the device, and serves the script of the input over it.
-fn mem<D: Pm, S: Source, O: Sink>(alloc: Global, dev: D, input: &mut S, out: &mut O) -> Outcome<D>
-    requires settled { NothingPending (D.told dev) }
-    ensures usage { result.status ≢ Status.Usage }
-    ensures ends { IsServed result.status → EndsMem result.status (D.page_count dev) input.old input.new out.old out.new
-        (S.rest input.old) (S.rest input.new) (O.written out.old) (O.written out.new)
-        (moment (D.told dev) (D.words dev)) (moment (D.told result.dev) (D.words result.dev)) }
-    ensures unbegun { IsUnbegun result.status → (result.dev ≡ dev) × (input.new ≡ input.old) × (out.new ≡ out.old) }
-    ensures unwritten { IsUnserved result.status → out.new ≡ out.old }
-    ensures not_image { (rule : ℕ) → result.status ≡ Status.NotImage rule → (rule ≡ 0) × IsMissized (D.page_count dev) }
-    ensures refused { (rule : ℕ) → (rule ≡ 0) × IsMissized (D.page_count dev) → IsRefusal rule result.status }
-    ensures later { D.faults dev ≤ D.faults result.dev }
-    ensures causes { HasCauses result.status (D.faults dev) (D.faults result.dev) (S.faults input.old) (S.faults input.new) (O.faults out.old) (O.faults out.new) }
-    ensures too_long { result.status ≡ Status.TooLong → IfSome (S.rest input.old) (λ script. SCRIPT_BYTES < length script) }
-    ensures long { IsSomeAnd (S.rest input.old) (λ script. SCRIPT_BYTES < length script) → IsCutShort result.status }
-{
-    let mut buffers = match Buffers::new(alloc) {
-        Ok(buffers) => buffers,
-        Err(_) => {
-            return Outcome {
-                status: Status::NoMemory,
-                dev,
-            };
-        }
-    };
-    match format(alloc, dev, INODES) {
-        Ok(fs) => serve_on(fs, &mut buffers, input, out),
-        Err(no_mount) => refused(no_mount),
-    }
-}
-
-/// Mounts the device, and serves the script of the input over it.
-fn image<D: Pm, S: Source, O: Sink>(alloc: Global, dev: D, input: &mut S, out: &mut O) -> Outcome<D>
-    requires settled { NothingPending (D.told dev) }
-    ensures usage { result.status ≢ Status.Usage }
-    ensures ends { IsServed result.status → (t : Tree) → IsTree t → Lands (D.words dev) t
-        → EndsRun (inode_count (D.words dev)) t result.status input.old input.new out.old out.new
-        (S.rest input.old) (S.rest input.new) (O.written out.old) (O.written out.new)
-        (moment (D.told dev) (D.words dev)) (moment (D.told result.dev) (D.words result.dev)) }
-    ensures unread { IsUnbegun result.status → IsUnused input.old input.new out.old out.new }
-    ensures untouched { IsUnbegun result.status
-        → (result.dev ≡ dev) ⊎ Settles (moment (D.told dev) (D.words dev)) (moment (D.told result.dev) (D.words result.dev)) }
-    ensures head { (rule : ℕ) → result.status ≡ Status.NotImage rule → rule < 8 → result.dev ≡ dev }
-    ensures unwritten { IsUnserved result.status → out.new ≡ out.old }
-    ensures not_image { (rule : ℕ) → result.status ≡ Status.NotImage rule → IsFirst (D.words dev) rule }
-    ensures refused { (rule : ℕ) → IsFirst (D.words dev) rule → IsRefusal rule result.status }
-    ensures later { D.faults dev ≤ D.faults result.dev }
-    ensures causes { HasCauses result.status (D.faults dev) (D.faults result.dev) (S.faults input.old) (S.faults input.new) (O.faults out.old) (O.faults out.new) }
-    ensures too_long { result.status ≡ Status.TooLong → IfSome (S.rest input.old) (λ script. SCRIPT_BYTES < length script) }
-    ensures long { IsSomeAnd (S.rest input.old) (λ script. SCRIPT_BYTES < length script) → IsCutShort result.status }
-{
-    let mut buffers = match Buffers::new(alloc) {
-        Ok(buffers) => buffers,
-        Err(_) => {
-            return Outcome {
-                status: Status::NoMemory,
-                dev,
-            };
-        }
-    };
-    match mount(alloc, dev) {
-        Ok(fs) => serve_on(fs, &mut buffers, input, out),
-        Err(no_mount) => refused(no_mount),
-    }
-}
-
-/// Makes a file system with so many inodes of the device.
-fn make<D: Pm>(alloc: Global, dev: D, inodes: u64) -> Outcome<D>
-    requires two { LEAST_INODES ≤ inodes }
-    requires few { inodes ≤ MOST_INODES }
-    requires settled { NothingPending (D.told dev) }
-    ensures usage { result.status ≢ Status.Usage }
-    ensures ends { IsServed result.status → EndsFormat inodes (D.page_count dev) result.status
-        (moment (D.told dev) (D.words dev)) (moment (D.told result.dev) (D.words result.dev)) }
-    ensures unbegun { IsUnbegun result.status → result.dev ≡ dev }
-    ensures not_image { (rule : ℕ) → result.status ≡ Status.NotImage rule → (rule ≡ 0) × IsMissized (D.page_count dev) }
-    ensures refused { (rule : ℕ) → (rule ≡ 0) × IsMissized (D.page_count dev) → IsRefusal rule result.status }
-    ensures later { D.faults dev ≤ D.faults result.dev }
-    ensures device_fault { result.status ≡ Status.DeviceFault → Rose (D.faults dev) (D.faults result.dev) }
-{
-    match format(alloc, dev, inodes) {
-        Ok(fs) => Outcome {
-            status: Status::Done,
-            dev: fs.unmount(),
-        },
-        Err(no_mount) => refused(no_mount),
-    }
-}
-
-/// Makes a file system of the device, makes the calls of a number over it, and writes what they come to.
-fn workload<D: Pm, O: Sink>(
+/// Runs a command in three steps: it takes the memory of its job, its file system comes to stand, and the job is done over it.
+fn carry_out<D: Pm, S: Source, O: Sink>(
     alloc: Global,
+    command: Command,
     dev: D,
-    number: u64,
-    count: u64,
+    input: &mut S,
     out: &mut O,
 ) -> Outcome<D>
-    requires few { count ≤ MOST_DRAWS }
+    requires fits { AreWithin (Some command) }
     requires settled { NothingPending (D.told dev) }
-    ensures usage { result.status ≢ Status.Usage }
-    ensures ends { IsServed result.status → EndsGen number count result.status (D.page_count dev) out.old out.new
-        (O.written out.old) (O.written out.new)
-        (moment (D.told dev) (D.words dev)) (moment (D.told result.dev) (D.words result.dev)) }
-    ensures unbegun { IsUnbegun result.status → (result.dev ≡ dev) × (out.new ≡ out.old) }
-    ensures not_image { (rule : ℕ) → result.status ≡ Status.NotImage rule → (rule ≡ 0) × IsMissized (D.page_count dev) }
-    ensures refused { (rule : ℕ) → (rule ≡ 0) × IsMissized (D.page_count dev) → IsRefusal rule result.status }
-    ensures later { D.faults dev ≤ D.faults result.dev }
-    ensures device_fault { result.status ≡ Status.DeviceFault → Rose (D.faults dev) (D.faults result.dev) }
-    ensures write_fault { result.status ≡ Status.WriteFault → Rose (O.faults out.old) (O.faults out.new) }
+    ensures { RunsAs (Some command) result.status
+        (devices dev result.dev (moment (D.told dev) (D.words dev)) (moment (D.told result.dev) (D.words result.dev))
+        (D.page_count dev) (D.faults dev) (D.faults result.dev))
+        (streams input.old input.new out.old out.new (S.rest input.old) (S.rest input.new) (O.written out.old) (O.written out.new)
+        (S.faults input.old) (S.faults input.new) (O.faults out.old) (O.faults out.new)) }
 {
-    let mut page = match Page::new(alloc) {
-        Ok(page) => page,
+    let job = match Job::new(alloc, command) {
+        Ok(job) => job,
         Err(_) => {
             return Outcome {
                 status: Status::NoMemory,
@@ -150,9 +51,34 @@ fn workload<D: Pm, O: Sink>(
             };
         }
     };
-    match format(alloc, dev, INODES) {
-        Ok(fs) => work_on(fs, number, count, &mut page, out),
+    match open(alloc, dev, command.way()) {
+        Ok(fs) => job.finish(fs, input, out),
         Err(no_mount) => refused(no_mount),
+    }
+}
+
+// Runs a command, or none.
+fn run_command<D: Pm, S: Source, O: Sink>(
+    alloc: Global,
+    command: Option<Command>,
+    dev: D,
+    input: &mut S,
+    out: &mut O,
+) -> Outcome<D>
+    requires fits { AreWithin command }
+    requires settled { NothingPending (D.told dev) }
+    ensures { RunsAs command result.status
+        (devices dev result.dev (moment (D.told dev) (D.words dev)) (moment (D.told result.dev) (D.words result.dev))
+        (D.page_count dev) (D.faults dev) (D.faults result.dev))
+        (streams input.old input.new out.old out.new (S.rest input.old) (S.rest input.new) (O.written out.old) (O.written out.new)
+        (S.faults input.old) (S.faults input.new) (O.faults out.old) (O.faults out.new)) }
+{
+    match command {
+        Some(command) => carry_out(alloc, command, dev, input, out),
+        None => Outcome {
+            status: Status::Usage,
+            dev,
+        },
     }
 }
 
@@ -220,6 +146,12 @@ pub fn run<D: Pm, S: Source, O: Sink>(
     ensures work_unread { (number count : ℕ) → command_of (map (λ w. string_bytes w) words.now) ≡ Some (Command.Gen number count)
         → input.new ≡ input.old }
 
+    // Where an image lands on no tree, a device that fails in the mount ends the run: nothing was read or written.
+    ensures unmounted { TakesImage (command_of (map (λ w. string_bytes w) words.now)) → result.status ≡ Status.DeviceFault
+        → ((t : Tree) → IsTree t → Lands (D.words dev) t → ⊥)
+        → IsUnused input.old input.new out.old out.new
+        × Mounts (moment (D.told dev) (D.words dev)) (moment (D.told result.dev) (D.words result.dev)) }
+
     // The tree of an image was written as the script that makes it: of an image that lands on one, with no step once it was
     // mounted; where a path is too long for a call, the lines before the first node that has one; and a prefix of all this where
     // the output failed. Nothing was read.
@@ -238,7 +170,8 @@ pub fn run<D: Pm, S: Source, O: Sink>(
     ensures refused { (rule : ℕ) → IsNoImage (command_of (map (λ w. string_bytes w) words.now)) (D.page_count dev) (D.words dev) rule
         → IsRefusal rule result.status }
 
-    // A fault is answered only where that one failed.
+    // A fault is answered only where that one failed, and the count of a device does not fall.
+    ensures later { D.faults dev ≤ D.faults result.dev }
     ensures causes { HasCauses result.status (D.faults dev) (D.faults result.dev) (S.faults input.old) (S.faults input.new) (O.faults out.old) (O.faults out.new) }
 
     // More bytes came than a script may have, exactly, where nothing ended the run before; or a path of the tree that is dumped is
@@ -255,15 +188,5 @@ pub fn run<D: Pm, S: Source, O: Sink>(
         → IsShortEnough (command_of (map (λ w. string_bytes w) words.now)) (S.rest input.old) (D.words dev)
         → IsDoneOrNoMemory result.status }
 {
-    match command_of(words) {
-        Some(Command::Mem) => mem(alloc, dev, input, out),
-        Some(Command::Run) => image(alloc, dev, input, out),
-        Some(Command::Format { inodes }) => make(alloc, dev, inodes),
-        Some(Command::Gen { number, count }) => workload(alloc, dev, number, count, out),
-        Some(Command::Dump) => dump(alloc, dev, out),
-        None => Outcome {
-            status: Status::Usage,
-            dev,
-        },
-    }
+    run_command(alloc, command_of(words), dev, input, out)
 }

@@ -1,41 +1,24 @@
 // The calls of a number over a file system that stands.
-ghost use Rattle.std.specs.Prelude.{◌≡◌, ◌≤◌, ℕ, IfOk, length};
+ghost use Rattle.std.specs.Prelude.{◌≡◌, ◌≤◌, ℕ, length};
 ghost use Rattle.ct_base.specs.Causes.{Rose};
 ghost use Rattle.ct_call.specs.Calls.{Keeps};
 ghost use Rattle.ct_call.specs.Seen.{faults_in};
-ghost use Rattle.ct_shell.specs.Moments.{moment, moment_in};
+ghost use Rattle.ct_shell.specs.Moments.{moment_in};
 ghost use Rattle.ct_tally.specs.Tried.{workload};
 ghost use Rattle.ct_tree.specs.Tree.{Tree};
 ghost use Rattle.ct_run.specs.Ends.{IsServed};
 ghost use Rattle.ct_run.specs.Workloads.{LeavesWork};
 
-use crate::status::{Outcome, Status};
-use ct_base::{NoMemory, PAGE_BYTES, Sink};
+use crate::memory::Page;
+use crate::status::Status;
+use ct_base::{PAGE_BYTES, Sink};
 use ct_fs::Fs;
 use ct_gen::MOST_DRAWS;
 use ct_pm::Pm;
 use ct_tally::{put_tally, work};
-use std::alloc::Global;
-
-/// Memory for a page that is read.
-#[derive(Drop)]
-pub struct Page {
-    bytes: Vec<u8>,
-}
-
-impl Page {
-    pub fn new(alloc: Global) -> Result<Page, NoMemory>
-        ensures { IfOk result (λ page. length page.bytes.items ≡ PAGE_BYTES) }
-    {
-        match vec![in alloc; 0u8; PAGE_BYTES as usize] {
-            Ok(bytes) => Ok(Page { bytes }),
-            Err(_) => Err(NoMemory),
-        }
-    }
-}
 
 /// Makes the calls of a number over a file system, and writes what they come to.
-fn work_and_tell<D: Pm, O: Sink>(
+pub fn work_and_tell<D: Pm, O: Sink>(
     fs: &mut Fs<D>,
     number: u64,
     count: u64,
@@ -59,32 +42,5 @@ fn work_and_tell<D: Pm, O: Sink>(
             Err(_) => Status::WriteFault,
         },
         Err(_) => Status::DeviceFault,
-    }
-}
-
-/// Makes the calls of a number over a file system, writes what they come to, and hands its device out.
-pub fn work_on<D: Pm, O: Sink>(
-    fs: Fs<D>,
-    number: u64,
-    count: u64,
-    page: &mut Page,
-    out: &mut O,
-) -> Outcome<D>
-    requires few { count ≤ MOST_DRAWS }
-    requires page { length page.old.bytes.items ≡ PAGE_BYTES }
-    ensures leaves { (inodes : ℕ) (t : Tree) → Keeps inodes fs.state t
-        → LeavesWork inodes t result.status (workload number count) out.old out.new (O.written out.old) (O.written out.new)
-        (moment_in fs.state) (moment (D.told result.dev) (D.words result.dev)) }
-    ensures later { (inodes : ℕ) (t : Tree) → Keeps inodes fs.state t → faults_in fs.state ≤ D.faults result.dev }
-    ensures device_fault { (inodes : ℕ) (t : Tree) → Keeps inodes fs.state t
-        → result.status ≡ Status.DeviceFault → Rose (faults_in fs.state) (D.faults result.dev) }
-    ensures write_fault { result.status ≡ Status.WriteFault → Rose (O.faults out.old) (O.faults out.new) }
-    ensures served { IsServed result.status }
-{
-    let mut fs = fs;
-    let status = work_and_tell(&mut fs, number, count, page, out);
-    Outcome {
-        status,
-        dev: fs.unmount(),
     }
 }

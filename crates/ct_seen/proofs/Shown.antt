@@ -28,7 +28,7 @@ use Rattle.ct_tree.specs.Content.{range}
 use Rattle.ct_tree.specs.Entries.{by_order}
 use Rattle.ct_tree.specs.Ordered.{AreEntries, IsBelow}
 use Rattle.ct_tree.specs.Resolve.{IsDir, entries_in, node_in}
-use Rattle.ct_tree.specs.Step.{answered, effect, list, listed_in, locate, names_in, read, refusal, stat, step, told}
+use Rattle.ct_tree.specs.Step.{answered, effect, list, listed_in, names_in, read, refusal, stat, step, told}
 use Rattle.ct_tree.specs.Tree.{Tree, File, Dir, Entries, none, entry}
 use Rattle.ct_tree.specs.declared.call.Refusal.{Refusal}
 use Rattle.ct_tree.specs.declared.call.Refusal.TheVariants.{BadPath}
@@ -89,9 +89,6 @@ file_check (Err e) h = absurd h
 
 pub list_passes : (t : Tree) (path : List ℕ) → LeadsTo t path IsDir → refusal t (list path) ≡ None
 list_passes t path leads = passed no_dir t path leads.0 (dir_check (at t path) leads.1)
-
-pub locate_passes : (t : Tree) (path : List ℕ) → LeadsTo t path IsFile → refusal t (locate path) ≡ None
-locate_passes t path leads = passed no_file t path leads.0 (file_check (at t path) leads.1)
 
 pub read_passes : (t : Tree) (path : List ℕ) (off : ℕ) → LeadsTo t path IsFile → refusal t (read path off 4096) ≡ None
 read_passes t path off leads =

@@ -2,7 +2,7 @@
 use Rattle.std.specs.Prelude.{ℕ, List, IsSomeAnd}
 use Rattle.std.specs.declared.option.Option.{Option}
 use Rattle.ct_call.specs.Calls.{StandsFor}
-use Rattle.ct_call.specs.Mounted.{IsAtRest}
+use Rattle.ct_commit.specs.Rest.{IsAtRest}
 use Rattle.ct_call.specs.Seen.{ready_in}
 use Rattle.ct_call.specs.declared.mount.State.{State}
 use Rattle.ct_tree.specs.Tree.{Tree}

@@ -1,5 +1,5 @@
 -- The reply to a call is one that the tree may give, and is written.
-use Rattle.std.proofs.Common.{◌≡◌, ◌≢◌, ℕ, ◌≤◌, List, [], ◌∷◌, ◌++◌, length, drop, take, Option, Some, None, Ok, Err, Result, refl, sym, ap, subst, ◌∙◌, inl, arith, rules, true≢false, true, false}
+use Rattle.std.proofs.Common.{◌≡◌, ◌≢◌, ℕ, ◌≤◌, List, [], ◌∷◌, length, drop, take, Option, Some, None, Ok, Err, Result, refl, sym, ap, subst, ◌∙◌, inl, arith, rules, true≢false, true, false}
 use Rattle.std.specs.Prelude.{IsNone, IsSomeAnd, MatchOption, OnOk}
 use Rattle.std.specs.Borrow.{Bor}
 use Rattle.std.proofs.lemmas.List.{take_at}
@@ -16,7 +16,6 @@ use Rattle.ct_call.specs.declared.mount.FsError.{FsError}
 use Rattle.ct_call.specs.declared.mount.FsError.TheVariants.{Dead, Refused as refused, Fault}
 use Rattle.ct_look.specs.declared.seen.Stat.{Stat as StatOf}
 use Rattle.ct_call.specs.declared.mount.State.{State}
-use Rattle.ct_script.proofs.Puts.{rose_after}
 use Rattle.ct_script.specs.Shows.{reply_of}
 use Rattle.ct_script.specs.Texts.{reply_line}
 use Rattle.ct_script.specs.declared.reply.Shown.{Shown}
@@ -33,15 +32,15 @@ use Rattle.ct_tree.specs.declared.call.Refusal.{Refusal}
 use Rattle.ct_tree.specs.declared.call.Reply.{Reply}
 use Rattle.ct_tree.specs.declared.call.Reply.TheVariants.{Done, Data, File as FileOf, Dir as DirOf, Names, At as AtOf, Refused as refusal_reply, BadLine as BadLineOf}
 use Rattle.ct_shell.specs.Binds.{Binds}
-use Rattle.ct_shell.specs.Moments.{IsBegun, PlacesOf, IsStill, Moment, Passed, RestsOn, Works, moment, moment_in, most_pairs}
+use Rattle.ct_chain.proofs.Chained.{serves_begun, serves_nothing, serves_put}
+use Rattle.ct_shell.specs.Moments.{IsBegun, IsBegunOf, PlacesOf, IsStill, Moment, Passed, RestsOn, Works, moment, moment_in, most_pairs}
 use Rattle.ct_shell.specs.Script.{is_change}
-use Rattle.ct_shell.specs.Served.{Served, Serves, StoppedBy}
+use Rattle.ct_shell.specs.Served.{IsDevice, Serves, StopsBy}
 use Rattle.ct_shell.specs.Shows.{Replies, error_reply, made_reply, place_reply, stat_reply}
 use Rattle.ct_shell.specs.declared.call.ServeEnd.{ServeEnd}
 use Rattle.ct_shell.specs.declared.call.ServeEnd.TheVariants.{Device, Output}
 use Rattle.ct_shell.proofs.Kept.{device_faults, device_moment, held, keeps_at, keeps_rests, ready_faults, ready_moment, some_and, stays}
 use Rattle.ct_shell.proofs.Refusals.{binds_refusal}
-use Rattle.ct_shell.proofs.Serves.{line_items, line_served, line_stopped, served_items, served_nothing, served_one, stopped_begun, stopped_one}
 
 -- a call that makes something
 pub made_replies : {D T : Type 0} {bound : _} (c : ℕ) (t : Tree) (op : Op) (from to : Option (State D bound)) (replays : (dev : D) → Replays (bound.told dev) (bound.words dev)) (result : Result T FsError) → Keeps c from t
@@ -183,38 +182,25 @@ place_replies {bound = bound} c t path state replays result keeps answer =
     place_case c t path state replays result keeps
     (subst (λ (m : Moment). IsLook (refusal t (locate path)) (λ place. IsPlaceAt m.words path place × MayLieAt (size_at t path) place.0 place.1) result) (sym (ready_moment state h.0 h.1)) (answer h.0 h.1 t h.2.stands))
 
-by_output : {c : ℕ} {t : Tree} {items : List Item} {old new : Option (List ℕ)} {f g : Moment} (end : ServeEnd) → end ≢ Device → StoppedBy Output c t items old new f g → StoppedBy end c t items old new f g
-by_output Device fails s = absurd (fails refl)
-by_output Output fails s = s
+stops_put : (end : ServeEnd) (g : Moment) → (end ≡ Device → ⊥) → (IsDevice end → ⊥) × ((torn : List Reply) → StopsBy end torn g g)
+stops_put Device g fails = absurd (fails refl)
+stops_put Output g fails = (fails, λ torn. refl)
 
 module _ {D T : Type 0} {bound : _} (c : ℕ) (t : Tree) (item : Item) (from to : Option (State D bound)) (old new : Option (List ℕ)) where
   -- a reply is put: it is written whole, or in part
   pub served_put : (result : Result T ServeEnd) (reply : Reply) (left : Tree) → Passed c t item reply left (moment_in from) (moment_in to) → Keeps c to left → faults_in from ≤ faults_in to → PutAppends old new result (reply_line reply)
       → result ≢ Err Device → Serves c t (item ∷ []) from to old new result
-  served_put (Ok value) reply left passed keeps later put fails = record {
-    whole = (left, served_one c t (item ∷ []) old (moment_in from) left item reply new (moment_in to) refl passed put, keeps);
-    stopped = tt;
-    later = later;
-    fault = λ is. absurd (fails is);
-  }
-  served_put (Err end) reply left passed keeps later put fails = record {
-    whole = tt;
-    stopped = by_output end (λ is. fails (ap Err is)) (stopped_one c t (item ∷ []) old (moment_in from) left item reply new (moment_in to) refl passed put);
-    later = later;
-    fault = λ is. absurd (fails is);
-  }
+  served_put result reply left passed keeps later put fails =
+      serves_put (Passed c) IsBegunOf reply_line StopsBy IsDevice (Keeps c to) t item (moment_in from) (moment_in to) (faults_in from) (faults_in to) old new later result reply left passed keeps put
+      (λ end is. stops_put end (moment_in to) (λ device. fails (is ∙ ap Err device)))
 
   -- nothing is put where the device failed
   pub served_none : (result : Result T ServeEnd) → result ≡ Err Device → new ≡ old → faults_in from ≤ faults_in to → Rose (faults_in from) (faults_in to) → IsBegun t (item ∷ []) (moment_in from) (moment_in to)
       → Serves c t (item ∷ []) from to old new result
   served_none (Ok value) is same later rose begun = absurd (cc)
   served_none (Err Output) is same later rose begun = absurd (cc)
-  served_none (Err Device) is same later rose begun = record {
-    whole = tt;
-    stopped = subst (λ (o : Option (List ℕ)). StoppedBy Device c t (item ∷ []) old o (moment_in from) (moment_in to)) (sym same) (stopped_begun c t (item ∷ []) old (moment_in from) (moment_in to) begun);
-    later = later;
-    fault = λ _. rose;
-  }
+  served_none (Err Device) is same later rose begun =
+      serves_begun (Passed c) IsBegunOf reply_line StopsBy IsDevice (Keeps c to) t item (moment_in from) (moment_in to) (faults_in from) (faults_in to) old new later Device rose same refl begun
 
   pub served_reply : (result : Result T ServeEnd) (reply : Option Shown) → Replies c t item from to reply
       → MatchOption reply ((result ≡ Err Device) × (new ≡ old)) (λ shown. PutAppends old new result (reply_line (reply_of shown)) × (result ≢ Err Device))
@@ -289,41 +275,4 @@ read_refused c t path off len state replays old new Fault reply is keeps look = 
 
 -- a line with no item
 pub served_empty : {D T : Type 0} {bound : _} (c : ℕ) (t : Tree) (state : Option (State D bound)) (old : Option (List ℕ)) (value : T) → Keeps c state t → Serves {T = T} c t [] state state old old (Ok value)
-served_empty c t state old value keeps = record {
-  whole = (t, served_nothing c t [] old (moment_in state) refl, keeps);
-  stopped = tt;
-  later = omega arith;
-  fault = λ is. absurd (cc);
-}
-
--- Items that were served, and then others.
-module _ {D : Type 0} {bound : _} (c : ℕ) (t : Tree) (all : List Item) (rest line : List ℕ) (more : List Item) (from mid to : Option (State D bound)) (a b d : Option (List ℕ))
-    (left : Tree) (had : Served c t left all (served_items rest) a b (moment_in from) (moment_in mid)) (splits : served_items rest ≡ line_items line ++ more) (before : faults_in from ≤ faults_in mid) where
-  -- the last line
-  pub serves_last : {T : Type 0} (result : Result T ServeEnd) (value : T) → result ≡ Ok value → more ≡ [] → Serves c left (line_items line) mid to b d result → Serves c t all from to a d result
-  serves_last (Ok done) value is none s = record {
-    whole = (
-      s.whole.0,
-      subst (λ (items : List Item). Served c t s.whole.0 all items a d (moment_in from) (moment_in to)) none (line_served c t left all rest line more a b d (moment_in from) (moment_in mid) (moment_in to) had splits s.whole.0 s.whole.1),
-      s.whole.2,
-    );
-    stopped = tt;
-    later = omega (arith, before, s.later);
-    fault = λ failed. absurd (cc);
-  }
-  serves_last (Err end) value is none s = absurd (cc)
-
-  -- a line that stops
-  pub serves_torn : {T : Type 0} (end : ServeEnd) (result : Result T ServeEnd) → result ≡ Err end → Serves c left (line_items line) mid to b d result → Serves {T = T} c t all from to a d (Err end)
-  serves_torn end (Ok done) is s = absurd (cc)
-  serves_torn {T = T} end (Err other) is s =
-      let same : other ≡ end = cc in
-      subst (λ (e : ServeEnd). Serves {T = T} c t all from to a d (Err e)) same
-      (record {
-        whole = tt;
-        stopped = line_stopped c t left all rest line more a b d (moment_in from) (moment_in mid) (moment_in to) had splits s.stopped;
-        later = omega (arith, before, s.later);
-        fault = λ failed.
-            let device : other ≡ Device = cc in
-            rose_after _ _ _ before (s.fault (ap Err device));
-      })
+served_empty c t state old value keeps = serves_nothing (Passed c) IsBegunOf reply_line StopsBy IsDevice (Keeps c state) t (moment_in state) (faults_in state) old value keeps

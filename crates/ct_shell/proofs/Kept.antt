@@ -2,7 +2,7 @@
 use Rattle.std.proofs.Common.{◌≡◌, ◌⊎◌, ℕ, List, Option, Some, None, refl, sym, ap, subst, inl, true≢false, arith}
 use Rattle.std.specs.Prelude.{IsSome, IsSomeAnd}
 use Rattle.std.proofs.lemmas.Option.{none-some, same_Some}
-use Rattle.ct_call.proofs.Landed.{shut_crash}
+use Rattle.ct_commit.proofs.States.{shut_crash}
 use Rattle.ct_call.proofs.Resting.{rest_lands}
 use Rattle.ct_call.specs.Calls.{Holds, Keeps}
 use Rattle.ct_call.specs.Mounted.{Volume}

@@ -1,11 +1,12 @@
 -- What is seen of a device at a moment, and what a crash may leave while items are answered.
-use Rattle.std.specs.Prelude.{◌≡◌, ◌⊎◌, ℕ, List, [], ◌∷◌, Some, None, IfSome}
+use Rattle.std.specs.Prelude.{◌≡◌, ◌⊎◌, ℕ, List, [], Some, None, IfSome}
 use Rattle.std.specs.declared.option.Option.{Option}
 use Rattle.ct_base.specs.declared.limits.TheConstants.{MOST_CALL_PAIRS}
 use Rattle.ct_call.specs.Calls.{Holds, most_pairs as call_pairs}
 use Rattle.ct_call.specs.Placed.{Places}
 use Rattle.ct_call.specs.declared.mount.State.{State}
 use Rattle.ct_call.specs.declared.mount.State.TheVariants.{Ready, Dead}
+use Rattle.ct_chain.specs.Chains.{Chain, HasBegun}
 use Rattle.ct_pm.specs.Device.{EachNow}
 use Rattle.ct_pm.specs.Images.{History, reads}
 use Rattle.ct_pm.specs.Phase.{Crash, Phase}
@@ -71,16 +72,16 @@ pub record Passed (c : ℕ) (t : Tree) (item : Item) (reply : Reply) (left : Tre
 
 -- the items had these replies, one after another, with a moment for each
 abbrev pub Passes : ℕ → Tree → List Item → List Reply → Tree → Moment → Moment → Type 0
-Passes c t [] [] t' from to = (t' ≡ t) × (to ≡ from)
-Passes c t (item ∷ items) (reply ∷ replies) t' from to = (mid : Tree) × (there : Moment) × Passed c t item reply mid from there × Passes c mid items replies t' there to
-Passes c t [] (reply ∷ replies) t' from to = ⊥
-Passes c t (item ∷ items) [] t' from to = ⊥
+Passes c = Chain (Passed c)
+
+-- the item is a call that was begun
+abbrev pub IsBegunOf : Tree → Item → Moment → Moment → Type 0
+IsBegunOf t bad from to = ⊥
+IsBegunOf t (call op) from to = Works (most_pairs (call op)) t (step t op).1 from to
 
 -- the first of the items is a call that was begun
 abbrev pub IsBegun : Tree → List Item → Moment → Moment → Type 0
-IsBegun t [] from to = ⊥
-IsBegun t (bad ∷ items) from to = ⊥
-IsBegun t (call op ∷ items) from to = Works (most_pairs (call op)) t (step t op).1 from to
+IsBegun = HasBegun IsBegunOf
 
 -- From some moment on a file system stood, which held the tree; and Then holds of that moment.
 pub record Begins (c : ℕ) (t : Tree) (Before Then : Moment → Type 0) : Type 0 where

@@ -12,9 +12,9 @@ use Rattle.ct_state.proofs.Carry.{view-seen}
 use Rattle.ct_words.specs.Shown.{shown_word}
 use Rattle.ct_words.proofs.Shown.{little-shown, view-small}
 use Rattle.ct_stage.specs.declared.edit.Given.{Given}
-use Rattle.ct_stage.specs.declared.edit.Given.TheVariants.{Same, Listed}
+use Rattle.ct_stage.specs.declared.edit.Given.TheVariants.{Same}
 use Rattle.ct_stage.specs.declared.edit.Edit.{Edit}
-use Rattle.ct_stage.specs.Edited.{given_at, edited, staged_words, AreBytes, HasBytes}
+use Rattle.ct_stage.specs.Edited.{given_at, edited, staged_words, AreBytes}
 use Rattle.ct_stage.specs.Staged.{Holds}
 
 pub edited-in : (b : ℕ → ℕ) (edit : Edit) (a : ℕ) → edit.from ≤ a → a < edit.to → edited b edit a ≡ given_at edit.given (a - edit.from)
@@ -51,11 +51,6 @@ word_off_edit img edit a r low high aligned off is =
 pub word_in_edit : (b : ℕ → ℕ) (edit : Edit) (a at r : ℕ) → edit.from ≤ a → a + 8 ≤ edit.to → at ≡ a - edit.from → r ≡ little (given_at edit.given) at 8 → r ≡ little (edited b edit) a 8
 word_in_edit b edit a at r from to is word =
     word ∙ sym (little-same (given_at edit.given) (edited b edit) at a 8 (λ k lt. edited-in b edit (a + k) (omega (arith, from)) (omega (arith, to, lt)) ∙ ap (given_at edit.given) (omega (arith, is, from))))
-
--- fewer bytes are there too
-pub bytes_there : (given : Given) (m n : ℕ) → m ≤ n → HasBytes given n → HasBytes given m
-bytes_there (Same byte) m n le there = tt
-bytes_there (Listed bytes) m n le there = omega (arith, le, there)
 
 -- a word of one byte
 pub same_word : (byte at : ℕ) → byte * 72340172838076673 ≡ little (given_at (Same byte)) at 8

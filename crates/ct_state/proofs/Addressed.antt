@@ -4,9 +4,9 @@ use Rattle.std.specs.Prelude.{max}
 use Rattle.std.proofs.lemmas.Bool.{cases_lt}
 use Rattle.ct_base.specs.Inode.{inode, IsNumber}
 use Rattle.ct_base.specs.Objects.{Object, object, objects}
-use Rattle.ct_state.specs.Edits.{without_slot, with_slot, slot_byte, detach, attach, discard, fresh, HasTail}
+use Rattle.ct_state.specs.Edits.{without_slot, with_slot, slot_byte, detach, attach, discard, HasTail}
 use Rattle.ct_state.proofs.Bytes.{content-at, content-past, objects-in, objects-cases, SameObject, object-same}
-use Rattle.ct_state.proofs.Composed.{removed_are, created_are, moved_are, moved_within_are, replaced_are, replaced_within_are}
+use Rattle.ct_state.proofs.Composed.{removed_are, moved_are, moved_within_are}
 use Rattle.ct_state.proofs.Edits.{zeros_in, kept_out, beside_or, tail_without}
 use Rattle.ct_state.proofs.Filled.{slot_at, kept_beside}
 
@@ -78,13 +78,6 @@ module _ (b c : ℕ → ℕ) (count : ℕ) where
       removed_are d o i apart (changed (λ f. without_slot f o) d nd (empties_is (object_tail b d) dir)) (objects-in c count i ni ∙ empty_is c i 0 kind size)
       (λ j there gone. same_objects j (λ number. others j number there gone))
 
-  -- create and mkdir: the slot's bytes are the entry's, and the inode is an empty object
-  pub created_objects : (d o i kind : ℕ) (x : List ℕ) → IsNumber count d → IsNumber count i → i ≢ d → Fills c d (object b d) o i x → (inode c i).kind ≡ kind → (inode c i).size ≡ 0
-      → ((j : ℕ) → IsNumber count j → j ≢ i → j ≢ d → SameObject b c j) → objects c count ≡ attach (fresh (objects b count) i kind) d o i x
-  created_objects d o i kind x nd ni apart dir is size others =
-      created_are d o i kind x apart (objects-in c count i ni ∙ empty_is c i kind is size) (changed (λ f. with_slot f o i x) d nd (fills_is (object_tail b d) dir))
-      (λ j made there. same_objects j (λ number. others j number made there))
-
   -- a rename into another directory
   pub moved_objects : (d o k s i : ℕ) (y : List ℕ) → IsNumber count d → IsNumber count k → d ≢ k → Empties c d (object b d) o → Fills c k (object b k) s i y
       → ((j : ℕ) → IsNumber count j → j ≢ d → j ≢ k → SameObject b c j) → objects c count ≡ attach (detach (objects b count) d o) k s i y
@@ -98,16 +91,3 @@ module _ (b c : ℕ → ℕ) (count : ℕ) where
   moved_within_objects d o s i y nd dir others =
       moved_within_are d o s i y (changed (λ f. with_slot (without_slot f o) s i y) d nd (fills_is (tail_without (object b d) o (object_tail b d)) dir))
       (λ j other. same_objects j (λ number. others j number other))
-
-  -- where object j is replaced, its words are 0 too
-  pub replaced_objects : (d o k s i j : ℕ) (y : List ℕ) → IsNumber count d → IsNumber count k → IsNumber count j → d ≢ k → d ≢ j → k ≢ j → Empties c d (object b d) o → Fills c k (object b k) s i y
-      → (inode c j).kind ≡ 0 → (inode c j).size ≡ 0 → ((a : ℕ) → IsNumber count a → a ≢ d → a ≢ k → a ≢ j → SameObject b c a) → objects c count ≡ discard (attach (detach (objects b count) d o) k s i y) j
-  replaced_objects d o k s i j y nd nk nj apart left right from to kind size others =
-      replaced_are d o k s i j y apart left right (changed (λ f. without_slot f o) d nd (empties_is (object_tail b d) from)) (changed (λ f. with_slot f s i y) k nk (fills_is (object_tail b k) to))
-      (objects-in c count j nj ∙ empty_is c j 0 kind size) (λ a here there gone. same_objects a (λ number. others a number here there gone))
-
-  pub replaced_within_objects : (d o s i j : ℕ) (y : List ℕ) → IsNumber count d → IsNumber count j → d ≢ j → Fills c d (without_slot (object b d) o) s i y
-      → (inode c j).kind ≡ 0 → (inode c j).size ≡ 0 → ((a : ℕ) → IsNumber count a → a ≢ d → a ≢ j → SameObject b c a) → objects c count ≡ discard (attach (detach (objects b count) d o) d s i y) j
-  replaced_within_objects d o s i j y nd nj apart dir kind size others =
-      replaced_within_are d o s i j y apart (changed (λ f. with_slot (without_slot f o) s i y) d nd (fills_is (tail_without (object b d) o (object_tail b d)) dir))
-      (objects-in c count j nj ∙ empty_is c j 0 kind size) (λ a here gone. same_objects a (λ number. others a number here gone))

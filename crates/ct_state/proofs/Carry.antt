@@ -3,10 +3,7 @@ use Rattle.std.proofs.Common.{◌≡◌, ℕ, true, false, List, refl, sym, ap, 
 use Rattle.std.proofs.lemmas.Bool.{cases_Bool}
 use Rattle.ct_base.specs.Walk.{byte}
 use Rattle.ct_base.specs.View.{is_seen, view, inode_count}
-use Rattle.ct_base.specs.Inode.{live_parts, free_parts}
 use Rattle.ct_base.specs.Objects.{objects}
-use Rattle.ct_tree.specs.Tree.{Tree}
-use Rattle.ct_tree.specs.Stands.{Stands}
 use Rattle.ct_tree.specs.Lands.{files}
 use Rattle.ct_state.specs.Alike.{Alike, IsWhole}
 use Rattle.ct_base.specs.Rules.{Rule, entries, once, inodes, placed, apart, tails, mapped, headers, rest, slots, names, named, reached, HoldsAt, Sound, FailsFirst, AreInodes, ArePlaced, ArePartsApart, AreTailsZero, AreHeaders, IsRestZero, AreEntries, AreNamesApart, AreNamed, AreReached}
@@ -37,15 +34,6 @@ alike_back a = record { bytes = sym a.bytes; inodes = sym a.inodes }
 
 pub files-same : {f g : List ℕ} → Alike f g → files g ≡ files f
 files-same {f} {g} a = ap (λ b. objects b (inode_count g)) a.bytes ∙ ap (objects (view f)) a.inodes
-
-pub parts-same : {f g : List ℕ} → Alike f g → live_parts (view g) (inode_count g) ≡ live_parts (view f) (inode_count f)
-parts-same {f} {g} a = ap (λ b. live_parts b (inode_count g)) a.bytes ∙ ap (live_parts (view f)) a.inodes
-
-pub free_parts-same : {f g : List ℕ} (level : ℕ) → Alike f g → free_parts (live_parts (view g) (inode_count g)) level ≡ free_parts (live_parts (view f) (inode_count f)) level
-free_parts-same level a = ap (λ ps. free_parts ps level) (parts-same a)
-
-pub stands-same : {f g : List ℕ} (i : ℕ) (t : Tree) → Alike f g → Stands (files f) i t → Stands (files g) i t
-stands-same i t a = subst (λ fs. Stands fs i t) (sym (files-same a))
 
 -- a rule that holds on one holds on the other
 pub carry : {f g : List ℕ} (r : Rule) → Alike f g → IsWhole g → HoldsAt f r → HoldsAt g r

@@ -23,11 +23,6 @@ leads_pop fs c i (y ∷ ys) x leads =
     let below = leads_pop fs (slot_inode (fs c) leads.0.offset) i ys x leads.1 in
     (below.0, (leads.0, below.1), below.2, below.3)
 
-pub entered_at : (fs : ℕ → Object) (i : ℕ) (xs : List (List ℕ)) (x : List ℕ) → Leads fs 1 (xs ++ (x ∷ [])) i → (d : ℕ) × (o : ℕ) × Entered fs d o i xs x
-entered_at fs i xs x leads =
-    let found = leads_pop fs 1 i xs x leads in
-    (found.0, found.2.offset, record { leads = found.1; slot = found.2.slot; child = found.3; name = found.2.name })
-
 module _ {fs : ℕ → Object} {d o i : ℕ} {xs : List (List ℕ)} {x : List ℕ} (e : Entered fs d o i xs x) where
   pub entered_leads : Leads fs 1 (xs ++ (x ∷ [])) i
   entered_leads = subst (Leads fs 1 (xs ++ (x ∷ []))) e.child (leads_push fs 1 d xs x e.leads (record { offset = o; slot = e.slot; name = e.name }))

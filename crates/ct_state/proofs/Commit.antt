@@ -12,9 +12,6 @@ use Rattle.ct_state.specs.Alike.{IsWhole}
 use Rattle.ct_state.proofs.Carry.{view-seen, view-other}
 use Rattle.ct_state.proofs.Neutral.{seen-bounds}
 use Rattle.ct_image.proofs.Partner.{partner-other}
-use Rattle.ct_base.specs.Words.{Writes}
-use Rattle.ct_image.proofs.Write.{cells, tables_new}
-use Rattle.ct_state.proofs.Stores.{bytes_stay}
 use Rattle.ct_state.proofs.Written.{entries_stay, names_apart_stay, named_stay, reached_stay}
 use Rattle.ct_state.proofs.Write.{HasSpace, WritesFile, space_stays, written, owns_on, part-same}
 
@@ -27,9 +24,6 @@ pub record SizeOnly (old new : List ℕ) (i : ℕ) : Type 0 where
 
 pub no_size : (img : List ℕ) (i : ℕ) → AreTables img → SizeOnly img img i
 no_size img i tables = record { tables = tables; pages = λ p. refl; bytes = λ v lt off. refl; inodes = refl }
-
-pub one_size : {old new : List ℕ} {q o x : ℕ} (i : ℕ) → Writes old new q o x → q * 512 + o ≡ 8 * i + 1 → inode_count new ≡ inode_count old → SizeOnly old new i
-one_size i s at same = record { tables = tables_new s; pages = λ p. cells s 4 p (omega arith); bytes = λ v lt off. bytes_stay s v lt (λ here. elim off [ inl l ↦ omega arith | inr r ↦ omega arith ]); inodes = same }
 
 -- bytes of pages outside both ranges stay, the others are those of the partner
 pub exchanged_byte : {old new : List ℕ} {a b n : ℕ} → Exchanged old new a b n → (v : ℕ) → v < 2 ^ 48 → byte new v ≡ byte_in old (page_at old 4 (partner a b n (v / 4096))) (v % 4096)

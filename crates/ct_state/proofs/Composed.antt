@@ -116,12 +116,6 @@ two_are {fs} {gs} {i} {k} {g} {h} apart first second others = with_is second (λ
 pub removed_are : {fs gs : ℕ → Object} (d o i : ℕ) → d ≢ i → gs d ≡ without_slot (fs d) o → gs i ≡ no_object → ((j : ℕ) → j ≢ d → j ≢ i → gs j ≡ fs j) → gs ≡ discard (detach fs d o) i
 removed_are d o i apart dir gone others = two_are apart dir gone others
 
--- create and mkdir
-pub created_are : {fs gs : ℕ → Object} (d o i kind : ℕ) (x : List ℕ) → i ≢ d → gs i ≡ record { kind = kind; size = 0; at = λ k. 0 } → gs d ≡ with_slot (fs d) o i x
-    → ((j : ℕ) → j ≢ i → j ≢ d → gs j ≡ fs j) → gs ≡ attach (fresh fs i kind) d o i x
-created_are {fs} d o i kind x apart new dir others =
-    two_are apart new (dir ∙ ap (λ f. with_slot f o i x) (sym (other_at fs i (record { kind = kind; size = 0; at = λ k. 0 }) d (λ is. apart (sym is))))) others
-
 -- a rename into another directory
 pub moved_are : {fs gs : ℕ → Object} (d o k s i : ℕ) (y : List ℕ) → d ≢ k → gs d ≡ without_slot (fs d) o → gs k ≡ with_slot (fs k) s i y
     → ((j : ℕ) → j ≢ d → j ≢ k → gs j ≡ fs j) → gs ≡ attach (detach fs d o) k s i y

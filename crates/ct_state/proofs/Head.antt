@@ -1,7 +1,7 @@
 -- What settling leaves of page 0.
 use Rattle.std.proofs.Common.{◌≡◌, ℕ, zero, suc, ◌<◌, List, length, ◌∙◌, arith}
 use Rattle.std.specs.Prelude.{slice_index}
-use Rattle.ct_base.specs.Walk.{word, page_count}
+use Rattle.ct_base.specs.Walk.{word}
 use Rattle.ct_base.specs.View.{inode_count}
 use Rattle.ct_base.specs.Settled.{Named, with_pairs, pairs_behind, open_pairs, cleared, settled, IsTarget, HaveTargets, IsRecord}
 use Rattle.ct_image.proofs.Pairs.{length-with_pairs, with_pairs_off, named_target}
@@ -21,9 +21,6 @@ module _ (img : List ℕ) (is : IsRecord img) where
   settled_head w low =
       cleared_off (with_pairs (open_pairs img) img) w (λ e. omega arith) (λ e. omega arith) (λ slot. omega (arith, slot.from))
       ∙ with_pairs_off (open_pairs img) img w (λ named. omega (arith, (open_target img w is named).0))
-
-  pub settled_count : page_count (settled img) ≡ page_count img
-  settled_count = settled_head 2 (omega arith)
 
   pub settled_inodes : inode_count (settled img) ≡ inode_count img
   settled_inodes = settled_head 3 (omega arith)

@@ -46,10 +46,8 @@ pub mod Settle
 pub mod Shut
 pub mod Sorted
 pub mod States
-pub mod Stores
 pub mod Unique
 pub mod Whole
 pub mod Words
 pub mod Write
-pub mod WriteStands
 pub mod Written

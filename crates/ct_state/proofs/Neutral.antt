@@ -1,33 +1,16 @@
 -- Steps that leave what an image stands for.
 use Rattle.std.proofs.Common.{◌≡◌, ℕ, ◌+◌, ◌*◌, ◌/◌, ◌%◌, ◌^◌, ◌<◌, ◌≤◌, true, List, sym, ap, ◌∙◌, subst, ◌⊎◌, inl, inr, arith}
 use Rattle.std.proofs.lemmas.Bool.{cases_lt}
-use Rattle.ct_base.specs.Walk.{page_at, byte, byte_in, Keeps}
+use Rattle.ct_base.specs.Walk.{page_at, byte, byte_in}
 use Rattle.ct_image.proofs.Steps.{walk-cell, byte_in-same, page_at-root}
 use Rattle.ct_image.proofs.Cut.{Cuts, cut_at, on_way_parts, tables_new}
 use Rattle.ct_base.specs.View.{is_seen, view, inode_count}
-use Rattle.ct_base.specs.Inode.{IsIn}
-use Rattle.ct_base.specs.Rules.{Owns, part_of, IsMappedInParts}
+use Rattle.ct_base.specs.Rules.{IsMappedInParts}
 use Rattle.ct_state.specs.Alike.{Alike, IsWhole}
 use Rattle.ct_state.proofs.Carry.{view-same}
 
 pub seen-bounds : (v : ℕ) → is_seen v ≡ true → (v < 2 ^ 48) × ((v < 2 * 2 ^ 39) ⊎ (10 * 2 ^ 39 ≤ v))
 seen-bounds v seen = (grind arith, elim (cases_lt v (2 * 2 ^ 39)) [ inl lt ↦ inl lt | inr ge ↦ inr (grind arith) ])
-
--- more pages for virtual page n
-pub keeps_alike : {old new : List ℕ} {n : ℕ} → Keeps old new n → inode_count new ≡ inode_count old → Alike old new
-keeps_alike {old} {new} k same = record { bytes = view-same old new (λ v seen. k.view v (seen-bounds v seen).0); inodes = same }
-
--- where page n is below root slot 10 or in a live partition, nothing else is mapped
-pub keeps_whole : {old new : List ℕ} {n : ℕ} → Keeps old new n → Alike old new → IsWhole old
-    → ((n < 10 * 2 ^ 27) ⊎ ((i : ℕ) × Owns (view old) (inode_count old) i × IsIn (part_of (view old) i) (n * 4096))) → IsWhole new
-keeps_whole {old} {new} {n} k a w place = record {
-  tables = k.tables;
-  mapped = subst (λ b. IsMappedInParts new b (inode_count new)) (sym a.bytes) (subst (λ c. IsMappedInParts new (view old) c) (sym a.inodes) (λ p low out.
-      k.others p (λ here. elim place [
-        | inl below ↦ omega (arith, here, below)
-        | inr inside ↦ out inside.0 inside.1 (subst (λ m. IsIn (part_of (view old) inside.0) (m * 4096)) (sym here) inside.2)
-      ]) ∙ w.mapped p low out));
-}
 
 -- a root slot from 2 to 9 is set to 0
 module _ {old new : List ℕ} {s : ℕ} (c : Cuts old new 0 0 s) (low : 2 ≤ s) (high : s ≤ 9) where

@@ -3,11 +3,10 @@ use Rattle.std.proofs.Common.{◌≡◌, ◌≢◌, ℕ, zero, suc, ◌+◌, ◌
 use Rattle.std.specs.Prelude.{slice_set}
 use Rattle.std.proofs.lemmas.Bool.{cases_eq, cases_lt}
 use Rattle.std.proofs.lemmas.List.{set-get_or, get_or-set_same, get_or-set_other, get_or_past}
-use Rattle.ct_base.specs.Walk.{word, page_count, next, page_at, byte, byte_in, AreTables}
+use Rattle.ct_base.specs.Walk.{word, page_count, next, page_at, byte, byte_in}
 use Rattle.ct_base.specs.Settled.{Pair, Named, with_pairs, open_pairs, pairs_behind, cleared, settled, IsShut}
-use Rattle.ct_image.proofs.Pairs.{length-with_pairs, with_pairs_off, is_named}
-use Rattle.ct_image.proofs.Steps.{next-same, page_at-same_root, page_at-next, page_at-low, page_at-root, walk-cell, byte_in-same}
-use Rattle.ct_image.proofs.Cut.{Cuts}
+use Rattle.ct_image.proofs.Pairs.{length-with_pairs, with_pairs_off}
+use Rattle.ct_image.proofs.Steps.{next-same, page_at-same_root, page_at-next, page_at-low, walk-cell, byte_in-same}
 use Rattle.ct_state.specs.Alike.{Alike}
 use Rattle.ct_state.proofs.Carry.{view-same}
 use Rattle.ct_state.proofs.Neutral.{seen-bounds}
@@ -118,36 +117,6 @@ settled_unstaged img k lt =
 
 pub settled_twice : (img : List ℕ) → settled (settled img) ≡ settled img
 settled_twice img = settled_idle (settled img) (settled_is_shut img) (settled_unstaged img)
-
--- with staging in slot 2 alone, that entry is cut
-pub settled_staged : (img : List ℕ) → IsShut img → AreTables img → ((k : ℕ) → 1 ≤ k → k < 8 → word img (33 * 512 + 2 + k) ≡ 0) → Cuts img (settled img) 0 0 2
-settled_staged img shut tables none =
-    let is = settled_shut img shut in
-    let root : page_at img 0 0 ≡ 33 = page_at-root img in
-    let at : page_at img 0 0 * 512 + 2 ≡ 33 * 512 + 2 = ap (λ t. t * 512 + 2) root in
-    record {
-      tables = tables;
-      depth = omega arith;
-      index = omega arith;
-      table = λ z. omega (arith, root, z);
-      entry = ap (word (settled img)) at ∙ ap (λ f. word f (33 * 512 + 2)) is ∙ zeros_put cleared img (33 * 512 + 2) cleared_zeros slot_2_cleared;
-      others = λ w other. ap (λ f. word f w) is ∙ elim (is_named cleared w) [
-        | inr off ↦ with_pairs_off cleared img w off
-        | inl named ↦
-            let zero_now : word (with_pairs cleared img) w ≡ 0 = zeros_put cleared img w cleared_zeros named in
-            zero_now ∙ sym (elim (cleared_names w named) [
-              | inl e ↦ ap (word img) e ∙ shut.0
-              | inr more ↦ elim more [
-                | inl e ↦ ap (word img) e ∙ shut.1
-                | inr slot ↦
-                    let from = slot.from in let to = slot.to in
-                    let not_2 : w ≢ 33 * 512 + 2 = λ e. other (e ∙ sym at) in
-                    ap (word img) (omega arith) ∙ none (w - (33 * 512 + 2)) (omega arith) (omega arith)
-              ]
-            ])
-      ];
-      size = ap length is ∙ length-with_pairs cleared img;
-    }
 
 -- images that agree off the record
 pub record AgreeOffRecord (f g : List ℕ) : Type 0 where

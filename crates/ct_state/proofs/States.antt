@@ -18,9 +18,6 @@ use Rattle.ct_state.proofs.Settle.{AgreeOffRecord, alike_off, cells_off}
 pub state_here : (f : List ℕ) → SameState f f
 state_here f = record { bytes = refl; inodes = refl; head = λ r. (λ h. h, λ h. h); rules = λ r. (λ h. h, λ h. h) }
 
-pub state_back : {f g : List ℕ} → SameState f g → SameState g f
-state_back s = record { bytes = sym s.bytes; inodes = sym s.inodes; head = λ r. ((s.head r).1, (s.head r).0); rules = λ r. ((s.rules r).1, (s.rules r).0) }
-
 pub state_then : {f g h : List ℕ} → SameState f g → SameState g h → SameState f h
 state_then s t = record {
   bytes = t.bytes ∙ s.bytes;

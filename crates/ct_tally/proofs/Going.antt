@@ -16,8 +16,8 @@ use Rattle.ct_tree.specs.Tree.{Tree}
 use Rattle.ct_tree.specs.declared.call.Call.{Call}
 use Rattle.ct_tree.specs.declared.call.Call.TheVariants.{Create as CreateCall, Mkdir, Write, Fill as FillCall, Append as AppendCall, Read, Truncate as TruncateCall, Unlink, Rmdir, Rename as RenameCall, Exchange as ExchangeCall, Stat, List as ListNames, Where}
 use Rattle.ct_tree.specs.declared.call.Reply.{Reply}
-use Rattle.ct_shell.proofs.Serves.{begun_more, ran_more, ran_none}
-use Rattle.ct_shell.specs.Moments.{moment_in}
+use Rattle.ct_chain.proofs.Chained.{begun_more, ran_more, ran_none}
+use Rattle.ct_shell.specs.Moments.{IsBegunOf, Passed, moment_in}
 use Rattle.ct_shell.specs.Served.{Ran}
 use Rattle.ct_shell.specs.Shows.{Replies}
 use Rattle.ct_tally.proofs.Counting.{counts_push}
@@ -71,7 +71,7 @@ pub record Going {D : Type 0} {bound : _} (c : ℕ) (t : Tree) (all rest : List 
   pub later : faults_in before ≤ faults_in now
 
 pub going_none : {D : Type 0} {bound : _} (c : ℕ) (t : Tree) (all : List Item) (state : Option (State D bound)) (counts : Counts) → counts ≡ counts_of [] → Keeps c state t → Going c t all all state state counts
-going_none c t all state counts is keeps = record { replies = []; left = t; ran = ran_none c t all (moment_in state); keeps = keeps; counted = is; later = omega arith }
+going_none c t all state counts is keeps = record { replies = []; left = t; ran = ran_none (Passed c) t all (moment_in state); keeps = keeps; counted = is; later = omega arith }
 
 module _ {D : Type 0} {bound : _} (c : ℕ) (t : Tree) (all rest more : List Item) (op : Op) (before now after : Option (State D bound)) (counts : Counts) (going : Going c t all rest before now counts) (is : rest ≡ call op ∷ more) where
   ran_next : Ran c t going.left all (call op ∷ more) going.replies (moment_in before) (moment_in now)
@@ -86,7 +86,7 @@ module _ {D : Type 0} {bound : _} (c : ℕ) (t : Tree) (all rest more : List Ite
       record {
         replies = going.replies ++ reply_of other ∷ [];
         left = replies.answered.0;
-        ran = ran_more c t going.left replies.answered.0 all more (call op) going.replies (reply_of other) (moment_in before) (moment_in now) (moment_in after) ran_next replies.answered.1;
+        ran = ran_more (Passed c) t going.left replies.answered.0 all more (call op) going.replies (reply_of other) (moment_in before) (moment_in now) (moment_in after) ran_next replies.answered.1;
         keeps = replies.answered.2;
         counted = counted ∙ ap (λ k. with_reply k (reply_of shown)) going.counted ∙ ap (λ s. with_reply (counts_of going.replies) (reply_of s)) (sym same) ∙ sym (counts_push going.replies (reply_of other));
         later = omega (arith, had, on);
@@ -104,7 +104,7 @@ module _ {D : Type 0} {bound : _} (c : ℕ) (t : Tree) (all rest more : List Ite
           left = going.left;
           moment = moment_in now;
           ran = ran_next;
-          begun = begun_more going.left (call op ∷ []) more (moment_in now) (moment_in after) (replies.begun refl);
+          begun = begun_more IsBegunOf going.left (call op ∷ []) more (moment_in now) (moment_in after) (replies.begun refl);
         };
         later = omega (arith, had, on);
         fault = rose_after _ _ _ had (replies.fault refl);

@@ -1,7 +1,7 @@
 -- Cells that have no page, and those that are wanted, run by run.
 use Rattle.std.proofs.Common.{◌≡◌, ℕ, zero, suc, ◌+◌, ◌-◌, ◌*◌, ◌/◌, ◌^◌, ◌<◌, ◌≤◌, Bool, true, false, max, List, [], ◌∷◌, ◌++◌, refl, sym, ap, subst, ◌∙◌, ◌⊎◌, inl, inr, arith}
 use Rattle.std.specs.Prelude.{◌&&◌, ◌||◌, ◌==◌, nat_le, nat_lt, ◌↔◌}
-use Rattle.std.proofs.Math.Nat.{div-add-mod, mod-lt, div-eq_of_lt-le, le-div_iff_mul-le, div-lt_iff_lt-mul, one-le-pow}
+use Rattle.std.proofs.Math.Nat.{div-add-mod, mod-lt, div-eq_of_lt-le, div-lt_iff_lt-mul, one-le-pow}
 use Rattle.std.proofs.lemmas.Nat.{pow-add}
 use Rattle.std.proofs.lemmas.Bool.{cases_eq, cases_lt, cases_Bool, and_from, and_parts, and_left, or_from, le-leb, lt-ltb, leb-true, ltb-true, eq-eqb, ne_eqb, eqb-true, both_ways}
 use Rattle.ct_base.specs.Walk.{page_at}
@@ -89,29 +89,6 @@ bytes_all d le =
     omega (arith, whole)
 
 module _ (want : Want) (some : 1 ≤ want.len) where
-  -- the numbers of the cells on its path
-  pub on_path-is : (d x : ℕ) → d + want.height ≤ 4 → is_on_path d x want ≡ true ↔ ((want.at / bytes_at d ≤ x) × (x < (want.at + (want.len - 1)) / bytes_at d + 1))
-  on_path-is d x le =
-      let s = bytes_at d in
-      let pos = bytes_pos d in
-      let low = div-lt_iff_lt-mul {k = s} {x = want.at} {y = x + 1} pos in
-      let high = le-div_iff_mul-le {k = s} {x = x} {y = want.at + (want.len - 1)} pos in (
-        λ on.
-            let p : (nat_le (d + want.height) 4 ≡ true) × ((nat_le (x * s + 1) (want.at + want.len) && nat_lt want.at ((x + 1) * s)) ≡ true) = and_parts _ _ on in
-            let q : (nat_le (x * s + 1) (want.at + want.len) ≡ true) × (nat_lt want.at ((x + 1) * s) ≡ true) = and_parts _ _ p.1 in
-            let above : x ≤ (want.at + (want.len - 1)) / s = high.1 (omega (arith, leb-true (x * s + 1) (want.at + want.len) q.0)) in
-            (omega (arith, low.1 (ltb-true want.at ((x + 1) * s) q.1)), omega (arith, above)),
-        λ both.
-            and_from _ _ (le-leb (d + want.height) 4 le)
-            (and_from _ _ (le-leb (x * s + 1) (want.at + want.len) (omega (arith, high.0 (omega (arith, both.1))))) (lt-ltb want.at ((x + 1) * s) (low.0 (omega (arith, both.0))))),
-      )
-
-  pub on_path-none : (d x : ℕ) → 4 < d + want.height → is_on_path d x want ≡ true ↔ ((0 ≤ x) × (x < 0))
-  on_path-none d x past = (
-    λ on. let p : (nat_le (d + want.height) 4 ≡ true) × ((nat_le (x * bytes_at d + 1) (want.at + want.len) && nat_lt want.at ((x + 1) * bytes_at d)) ≡ true) = and_parts _ _ on in absurd (omega (arith, leb-true (d + want.height) 4 p.0)),
-    λ both. absurd (omega (arith, both.1)),
-  )
-
   pub path_high : (d x : ℕ) → is_on_path d x want ≡ true → d + want.height ≤ 4
   path_high d x on = let p : (nat_le (d + want.height) 4 ≡ true) × ((nat_le (x * bytes_at d + 1) (want.at + want.len) && nat_lt want.at ((x + 1) * bytes_at d)) ≡ true) = and_parts _ _ on in leb-true (d + want.height) 4 p.0
 

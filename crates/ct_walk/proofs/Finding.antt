@@ -7,7 +7,7 @@ use Rattle.ct_base.specs.Walk.{page_at, next}
 use Rattle.ct_image.proofs.Steps.{page_at-next, page_at-root, next-zero}
 use Rattle.ct_walk.specs.declared.absent.Look.TheVariants.{Present, Absent}
 use Rattle.ct_walk.specs.Looks.{Finds}
-use Rattle.ct_walk.specs.Pages.{some_page, IsSomeTable}
+use Rattle.ct_walk.specs.Pages.{some_page}
 use Rattle.ct_walk.specs.Runs.{absent_below}
 use Rattle.ct_walk.proofs.Entries.{some_page-is, some_page-none}
 use Rattle.ct_walk.proofs.Cells.{count_below-skip, count_below-all}
@@ -45,9 +45,6 @@ finds_none img d e x table is low (at, there, fits) exact =
     let none : next img table (x % 512) ≡ 0 = some_page-none (next img table (x % 512)) exact in
     let here : page_at img d x ≡ next img table (x % 512) = step img d e x is ∙ ap (λ t. next img t (x % 512)) (sym at) in
     (omega arith, omega (arith, low), λ y from to. let same : y ≡ x = omega arith in ap (page_at img d) same ∙ here ∙ none)
-
-pub table_found : (img : List ℕ) (e x table : ℕ) → e ≤ 3 → Finds img e x (Present table) → IsSomeTable img table
-table_found img e x table le (at, there, fits) = record { depth = e; low = le; table = record { cell = x; is = sym at; there = there } }
 
 -- one cell further, or past those that are absent together
 pub absent_more : (img : List ℕ) (d total from x absent more : ℕ) → total + absent_below img d from ≡ absent_below img d x → (absent ≡ 0 → page_at img d x ≢ 0) → ((y : ℕ) → x ≤ y → y < x + absent → page_at img d y ≡ 0)

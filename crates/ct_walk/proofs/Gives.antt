@@ -29,9 +29,6 @@ entry_some img table k i sub lt ne =
     let bounds = named_page-bounds (page_count img) (word img (table * 512 + i)) (λ none. named (is ∙ none)) in
     (named, omega (arith, is, bounds.2))
 
-pub given_start : (img before : List ℕ) (table k : ℕ) → Given img before before table k 0
-given_start img before table k = record { old = λ q c. c; new = λ q j lt u. absurd (omega arith); only = λ q c. inl c }
-
 pub given_none : (img before now : List ℕ) (table k i : ℕ) → Given img before now table k i → next img table i ≡ 0 → Given img before now table k (i + 1)
 given_none img before now table k i g none =
     record {

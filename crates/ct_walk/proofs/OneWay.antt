@@ -14,7 +14,7 @@ use Rattle.ct_walk.specs.Pages.{on_way}
 use Rattle.std.specs.Prelude.{Option, Result, Ok, Err, OnOk}
 use Rattle.ct_pm.specs.Device.{NothingPending}
 use Rattle.ct_base.specs.View.{view, is_seen}
-use Rattle.ct_base.specs.Walk.{AreTables, Keeps}
+use Rattle.ct_base.specs.Walk.{AreTables}
 use Rattle.ct_image.proofs.Seen.{seen-bounds}
 use Rattle.ct_frames.specs.Free.{FreePages}
 use Rattle.ct_frames.specs.Agrees.{Agrees}
@@ -177,18 +177,3 @@ grown_view g v = elim (cases_Bool (is_seen v)) [
   | inl seen ↦ rw seen (g.bytes v (seen-bounds v seen).0)
   | inr not ↦ rw not refl
 ]
-
-pub grown_keeps : {old new : List ℕ} {before after : FreePages} (h v : ℕ) → Grown old new (at_one h v) before after → Keeps old new (v / 4096)
-grown_keeps h v g = record {
-  tables = g.tables;
-  walks = g.walks;
-  others = λ y away. g.cells 4 y (omega arith) (elim (cases_Bool (is_wanted (at_one h v) 4 y)) [
-    | inl wanted ↦
-        let page : v / 4096 / 512 ^ (4 - 4) ≡ v / 4096 = omega arith in
-        absurd (away ((path_is h v 4 y (sym (or-false _) ∙ wanted)).1 ∙ page))
-    | inr not ↦ not
-  ]);
-  view = g.bytes;
-  count = g.low 2 (omega arith);
-  size = g.size;
-}

@@ -18,11 +18,6 @@ pub on_ok_if : {T E : Type 0} (P Q : Type 0) (r : Result T E) → (P → OnOk r 
 on_ok_if P Q (Ok done) f = f
 on_ok_if P Q (Err error) f = tt
 
--- what follows from what holds where a result is Ok
-pub on_ok_to : {T E : Type 0} (P Q : Type 0) (r : Result T E) → (P → Q) → OnOk r P → OnOk r Q
-on_ok_to P Q (Ok done) f p = f p
-on_ok_to P Q (Err error) f p = tt
-
 -- the first i of n words are 0, and all others are as they were
 pub record ZeroSoFar (first n i : ℕ) (was words : List ℕ) (old told : Option History) : Type 0 where
   pub zeros : (k : ℕ) → k < i → slice_index words (first + k) ≡ 0

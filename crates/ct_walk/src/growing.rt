@@ -134,8 +134,8 @@ pub fn ensure_at<D: Pm>(
 /// Makes the page (`K` is 0) or the table of level `K` (1 to 3) at an address, with the tables on its way, where they are
 /// absent.
 ///
-/// The pages come from `frames`, the lowest first, and there are exactly as many as are missing. A crash at any moment
-/// leaves well formed tables, each page that was there at its place, and each byte as it was.
+/// The pages come from `frames`, and there are exactly as many as are missing. A crash at any moment leaves well formed
+/// tables, each page that was there at its place, and each byte as it was.
 ///
 /// # Errors
 ///
@@ -186,8 +186,8 @@ fn ensure_want<D: Pm>(dev: &mut D, frames: &mut Frames, want: &Want) -> Result<(
 
 /// Makes all that the wants ask for, where it is absent.
 ///
-/// The pages come from `frames`, the lowest first, and there are exactly as many as are missing. A crash at any moment
-/// leaves well formed tables, each page that was there at its place, and each byte as it was.
+/// The pages come from `frames`, and there are exactly as many as are missing. A crash at any moment leaves well formed
+/// tables, each page that was there at its place, and each byte as it was.
 ///
 /// # Errors
 ///

@@ -1,17 +1,14 @@
 -- The record of a write is made: the file has the new bytes.
 use Rattle.std.proofs.Common.{◌≡◌, ◌≢◌, ℕ, ◌+◌, ◌-◌, ◌*◌, ◌/◌, ◌%◌, ◌^◌, ◌<◌, ◌≤◌, ◌⊎◌, true, false, List, sym, ap, subst, ◌∙◌, inl, inr, arith}
-use Rattle.std.specs.Prelude.{max}
 use Rattle.std.proofs.Math.Nat.{le-max_left, le-max_right, max-le}
 use Rattle.std.proofs.lemmas.Bool.{cases_Bool, cases_lt, lt-ltb, or_left}
 use Rattle.ct_base.specs.declared.inode.Inode.{Inode}
 use Rattle.ct_base.specs.Exchange.{Exchanged, Outside, partner}
 use Rattle.ct_base.specs.Inode.{inode, IsIn, part_bytes}
 use Rattle.ct_base.specs.Plan.{touched}
-use Rattle.ct_base.specs.Rules.{Rule, number, HoldsAt, HasNone, HasRoom, Owns, part_of, IsMappedInParts, entries, once, inodes, placed, apart, tails, mapped, headers, rest, slots, names, named, reached}
-use Rattle.ct_base.specs.Settled.{IsShut}
+use Rattle.ct_base.specs.Rules.{HasRoom, Owns, part_of}
 use Rattle.ct_base.specs.View.{is_seen, view, inode_count}
-use Rattle.ct_base.specs.Walk.{word, byte, byte_in, page_at, AreTables}
-use Rattle.ct_grow.specs.Grown.{IsReady}
+use Rattle.ct_base.specs.Walk.{word, byte, byte_in, page_at}
 use Rattle.ct_grow.proofs.Moved.{space_of}
 use Rattle.ct_image.proofs.Partner.{partner-first, partner-other}
 use Rattle.ct_image.proofs.Steps.{walk-cell}
@@ -19,12 +16,10 @@ use Rattle.ct_stage.specs.declared.edit.Edit.{Edit}
 use Rattle.ct_stage.specs.declared.edit.Given.{Given}
 use Rattle.ct_stage.specs.Edited.{AreBytes, edited}
 use Rattle.ct_stage.proofs.Edits.{edited-off}
-use Rattle.ct_state.specs.Alike.{IsWhole}
 use Rattle.ct_state.proofs.Carry.{view-seen, view-other}
 use Rattle.ct_state.proofs.Commit.{exchanged_byte, outside_byte}
 use Rattle.ct_state.proofs.Neutral.{seen-bounds}
-use Rattle.ct_state.proofs.Write.{HasSpace, WritesFile, owns_on, part-same, space_stays}
-use Rattle.ct_words.proofs.Shown.{little-shown}
+use Rattle.ct_state.proofs.Write.{WritesFile}
 use Rattle.ct_write.specs.Prepared.{Prepared}
 use Rattle.ct_write.specs.Recorded.{Recorded}
 use Rattle.ct_write.specs.Written.{CanWrite, IsEdited, edit_of, side_page, size_after, stage_page}

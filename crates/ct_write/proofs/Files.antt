@@ -1,39 +1,23 @@
 -- After a write the image stands for the tree with the file's new bytes.
-use Rattle.std.proofs.Common.{◌≡◌, ℕ, ◌+◌, ◌-◌, ◌<◌, ◌≤◌, List, [], ◌∷◌, ◌++◌, length, drop, refl, sym, ap, subst, ◌∙◌, inl, inr, arith}
+use Rattle.std.proofs.Common.{◌≡◌, ℕ, ◌+◌, ◌-◌, ◌<◌, ◌≤◌, List, [], ◌∷◌, ◌++◌, length, drop, refl, sym, ap, ◌∙◌, inl, inr, arith}
 use Rattle.std.specs.Prelude.{max, take, replicate, slice_index}
 use Rattle.std.proofs.Math.Nat.{max-eq_left, max-eq_right}
 use Rattle.std.proofs.lemmas.Bool.{cases_lt}
 use Rattle.std.proofs.lemmas.List.{get_or_append_left, get_or-append_right, get_or-drop, get_or-replicate, get_or-take, get_or_past, length-append, length-drop, length-replicate, length-take}
 use Rattle.ct_base.specs.declared.inode.Inode.{Inode}
 use Rattle.ct_base.specs.Inode.{inode, part_bytes}
-use Rattle.ct_base.specs.Named.{Leads}
-use Rattle.ct_state.proofs.Paths.{Path}
-use Rattle.ct_base.specs.Objects.{Object, content, objects}
-use Rattle.ct_base.specs.Rules.{Sound, AreEntries, AreNamesApart, AreNamed, AreReached, entries, once, inodes, placed, apart, tails, mapped, headers, rest, slots, names, named, reached}
-use Rattle.ct_base.specs.View.{view, inode_count}
-use Rattle.ct_base.specs.Walk.{AreTables}
+use Rattle.ct_base.specs.View.{view}
 use Rattle.ct_stage.specs.declared.edit.Given.{Given}
 use Rattle.ct_stage.specs.Edited.{given_at}
 use Rattle.ct_stage.proofs.Edits.{edited-in, edited-off}
-use Rattle.ct_state.specs.Leads.{LeadsTo}
-use Rattle.ct_state.proofs.Bytes.{content-at, objects-in}
-use Rattle.ct_state.proofs.Forests.{once_named, path_up}
-use Rattle.ct_state.proofs.Grafts.{tree_graft}
-use Rattle.ct_state.proofs.Puts.{onto}
-use Rattle.ct_state.proofs.Write.{part-same, written as object_written}
-use Rattle.ct_state.proofs.Written.{entries_stay, names_apart_stay, named_stay, reached_stay}
-use Rattle.ct_grow.proofs.Moved.{space_of}
 use Rattle.ct_tree.specs.Content.{resized, written}
 use Rattle.ct_tree.specs.Lands.{files}
-use Rattle.ct_tree.specs.Ordered.{IsTree}
-use Rattle.ct_tree.specs.Resolve.{put}
-use Rattle.ct_tree.specs.Stands.{IsFile, Stands}
-use Rattle.ct_tree.specs.Tree.{Tree, File}
+use Rattle.ct_tree.specs.Stands.{IsFile}
 use Rattle.ct_tree.proofs.Ordered.{resized_length}
 use Rattle.ct_write.specs.declared.data.Data.{Data}
 use Rattle.ct_write.specs.declared.data.Data.TheVariants.{Bytes, Fill}
 use Rattle.ct_write.specs.Written.{CanWrite, IsWritten, data_bytes, data_given, data_len, edit_of}
-use Rattle.ct_write.proofs.Changing.{Changing, bytes_had, changed_stands, file_now, size_had}
+use Rattle.ct_write.proofs.Changing.{Changing, bytes_had, file_now, size_had}
 use Rattle.ct_write.proofs.Done.{changing, room_of, write_size}
 
 -- ---- the bytes of a write, as the tree has them
@@ -126,8 +110,3 @@ module _ {old new : List ℕ} {i off len : ℕ} {given : Given} (can : CanWrite 
               | inr past ↦ edited-off (view old) (edit_of f off len given) (f.base + k) (inr (omega arith)) ∙ stays ∙ sym (written_after was off bytes k some (omega (arith, count)))
             ]
           ]
-
-  -- and the tree is that of the write
-  pub written_stands : Sound old → (rs xs : List (List ℕ)) (t : Tree) (was bytes : List ℕ) → Path (files old) rs i → rs ≡ onto xs [] → Leads (files old) 1 xs i → LeadsTo t xs (File was) → IsTree t
-      → Stands (files old) 1 t → IsFile (files old i) was → length bytes ≡ len → ((k : ℕ) → k < len → given_at given k ≡ slice_index bytes k) → Stands (files new) 1 (put t xs (File (written was off bytes)))
-  written_stands sound rs xs t was bytes way on leads to tree st is count gives = changed_stands changed sound rs xs t was (written was off bytes) way on leads to tree st (file_written was bytes is count gives)

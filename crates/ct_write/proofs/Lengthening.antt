@@ -1,15 +1,14 @@
 -- A file is lengthened: one size becomes another.
-use Rattle.std.proofs.Common.{◌≡◌, ◌≢◌, ℕ, ◌+◌, ◌*◌, ◌/◌, ◌^◌, ◌<◌, ◌≤◌, ◌⊎◌, List, length, sym, ap, subst, ◌∙◌, inl, inr, arith}
-use Rattle.std.specs.Prelude.{slice_index}
+use Rattle.std.proofs.Common.{◌≡◌, ◌≢◌, ℕ, ◌+◌, ◌*◌, ◌/◌, ◌≤◌, List, length, sym, ap, subst, ◌∙◌, inl, inr, arith}
 use Rattle.std.proofs.lemmas.Bool.{cases_Bool, lt-ltb, or_left}
 use Rattle.ct_base.specs.Inode.{inode, part_bytes}
-use Rattle.ct_base.specs.Rules.{HasRoom, Owns, mapped, placed}
+use Rattle.ct_base.specs.Rules.{HasRoom, Owns}
 use Rattle.ct_base.specs.Settled.{IsShut}
 use Rattle.ct_base.specs.View.{is_seen, view, inode_count}
 use Rattle.ct_base.specs.Walk.{page_at}
 use Rattle.ct_frames.specs.Agrees.{Agrees}
 use Rattle.ct_frames.specs.Free.{FreePages}
-use Rattle.ct_grow.proofs.Carried.{whole_of}
+use Rattle.ct_grow.proofs.Carried.{ready_closed}
 use Rattle.ct_grow.proofs.Moved.{space_of}
 use Rattle.ct_grow.specs.Grown.{IsReady}
 use Rattle.ct_inode.proofs.Loaded.{kind_none}
@@ -24,7 +23,7 @@ use Rattle.ct_words.proofs.Shown.{little-shown}
 use Rattle.ct_words.specs.Shown.{shown_word}
 use Rattle.ct_write.specs.Lengthened.{CanLengthen, IsLengthened}
 use Rattle.ct_write.specs.Recorded.{Sized}
-use Rattle.ct_write.proofs.Changing.{Changing, bytes_had, changed_placed, changed_ready, changed_whole, file_now, size_had}
+use Rattle.ct_write.proofs.Changing.{Changing, bytes_had, changed_placed, changed_ready, changed_whole, file_now}
 use Rattle.ct_write.proofs.Files.{resized_at}
 use Rattle.ct_write.proofs.Reaching.{fresh_agree}
 use Rattle.ct_write.proofs.Sizing.{sized_inode}
@@ -99,11 +98,8 @@ module _ {w0 : List ℕ} {i len : ℕ} (can : CanLengthen w0 i len) where
   pub lengthening_turns : Turns w0 w0 (λ after. Sized w0 after i len)
   lengthening_turns = record {
     still = state_here w0;
-    shut = can.ready.shut;
-    whole = whole_of can.ready;
-    placed = can.ready.rules placed (omega arith);
-    whole_after = λ after s. changed_whole (lengthening (lengthened s)) s.tables;
-    placed_after = λ after s. changed_placed (lengthening (lengthened s));
+    closed = ready_closed can.ready;
+    after = λ after s shut. record { shut = shut; whole = changed_whole (lengthening (lengthened s)) s.tables; placed = changed_placed (lengthening (lengthened s)) };
     from = λ after s q high. (q, omega (arith, high), sym (s.cells 4 q (omega arith)));
   }
 

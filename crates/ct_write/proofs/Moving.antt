@@ -1,5 +1,5 @@
 -- Pages were staged, and their record turns the words into those of the edit.
-use Rattle.std.proofs.Common.{◌≡◌, ℕ, ◌+◌, ◌*◌, ◌/◌, ◌^◌, ◌<◌, ◌≤◌, List, sym, subst, ◌∙◌, inl, inr, arith}
+use Rattle.std.proofs.Common.{ℕ, ◌+◌, ◌*◌, ◌^◌, ◌≤◌, List, sym, subst, ◌∙◌, inl, inr, arith}
 use Rattle.std.proofs.lemmas.Bool.{cases_lt}
 use Rattle.ct_base.specs.Exchange.{partner}
 use Rattle.ct_base.specs.Inode.{inode}
@@ -7,7 +7,6 @@ use Rattle.ct_base.specs.Plan.{touched}
 use Rattle.ct_base.specs.Rules.{ArePlaced, placed}
 use Rattle.ct_base.specs.State.{SameState}
 use Rattle.ct_base.specs.View.{view, inode_count}
-use Rattle.ct_base.specs.Walk.{page_at}
 use Rattle.ct_image.proofs.Partner.{partner-first, partner-second, partner-other}
 use Rattle.ct_stage.specs.declared.edit.Given.{Given}
 use Rattle.ct_stage.specs.Edited.{AreBytes}
@@ -67,11 +66,8 @@ module _ {w0 w2 : List ℕ} {i off len : ℕ} {given : Given} {size : ℕ} (s : 
       let at = spot_of s.can in
       record {
         still = s.still;
-        shut = s.prepared.laid.shut;
-        whole = laid_whole s.prepared.laid;
-        placed = placed_two;
-        whole_after = λ w3 r. changed_whole (changes_with r) r.sized.tables;
-        placed_after = λ w3 r. changed_placed (changes_with r);
+        closed = record { shut = s.prepared.laid.shut; whole = laid_whole s.prepared.laid; placed = placed_two };
+        after = λ w3 r shut. record { shut = shut; whole = changed_whole (changes_with r) r.sized.tables; placed = changed_placed (changes_with r) };
         from = λ w3 r q high. (
           partner a b n q,
           partner_from (2 * 2 ^ 27) a b n q (omega (arith, at.first_from)) at.second_from (omega (arith, high)),

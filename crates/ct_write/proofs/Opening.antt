@@ -1,6 +1,6 @@
 -- What the call was given, as the function has it.
-use Rattle.std.proofs.Common.{◌≡◌, ℕ, ◌+◌, ◌*◌, ◌/◌, ◌^◌, ◌<◌, ◌≤◌, List, length, sym, ap, subst, ◌∙◌, arith}
-use Rattle.std.specs.Prelude.{max, Option}
+use Rattle.std.proofs.Common.{◌≡◌, ℕ, ◌+◌, ◌*◌, ◌/◌, ◌^◌, ◌≤◌, List, length, sym, ap, subst, ◌∙◌, arith}
+use Rattle.std.specs.Prelude.{max}
 use Rattle.std.proofs.lemmas.Bool.{lt-ltb, or_left}
 use Rattle.ct_base.specs.declared.inode.Inode.{Inode}
 use Rattle.ct_base.specs.Inode.{inode, part, part_bytes}
@@ -13,15 +13,13 @@ use Rattle.ct_base.specs.Wants.{missing}
 use Rattle.ct_grow.specs.Grown.{IsReady}
 use Rattle.ct_inode.proofs.Loaded.{kind_none}
 use Rattle.ct_parts.proofs.Lengths.{pow8_small}
-use Rattle.ct_pm.specs.Images.{History}
-use Rattle.ct_pm.specs.Device.{LeavesOnly}
 use Rattle.ct_stage.specs.declared.edit.Given.{Given}
 use Rattle.ct_stage.specs.Edited.{AreBytes}
 use Rattle.ct_stage.specs.Staged.{IsResting}
 use Rattle.ct_words.proofs.Shown.{little-shown}
 use Rattle.ct_words.specs.Shown.{shown_word}
 use Rattle.ct_write.specs.Prepared.{Prepared, range_wants}
-use Rattle.ct_write.specs.Recorded.{CanRecord, Recorded, SettlesRecorded}
+use Rattle.ct_write.specs.Recorded.{CanRecord, Recorded}
 use Rattle.ct_write.specs.Written.{CanWrite, edit_of, side_page, size_after, stage_page}
 use Rattle.ct_write.proofs.Counting.{range_missing}
 use Rattle.ct_write.proofs.Done.{IsSize, spot_of, write_size}
@@ -105,12 +103,6 @@ module _ {w0 : List ℕ} {i off len : ℕ} {given : Given} {file : Inode} {a b n
 
   pub recorded_at : {w2 w3 : List ℕ} {size : ℕ} → Recorded w2 w3 i a b n size → Recorded w2 w3 i (side_page f off) (stage_page f off) (touched off len) size
   recorded_at {w2} {w3} {size} r = at_file (λ x y z. Recorded w2 w3 i x y z size) r
-
-  pub settles_at : {w2 image : List ℕ} {size : ℕ} → SettlesRecorded w2 i a b n size image → SettlesRecorded w2 i (side_page f off) (stage_page f off) (touched off len) size image
-  settles_at {w2} {image} {size} r = at_file (λ x y z. SettlesRecorded w2 i x y z size image) r
-
-  pub moments_at : {w2 : List ℕ} {mid told : Option History} {size : ℕ} → LeavesOnly mid told (SettlesRecorded w2 i a b n size) → LeavesOnly mid told (SettlesRecorded w2 i (side_page f off) (stage_page f off) (touched off len) size)
-  moments_at {w2} {mid} {told} {size} r = at_file (λ x y z. LeavesOnly mid told (SettlesRecorded w2 i x y z size)) r
 
   -- the size that a write drafts
   pub write_total : {size : ℕ} → size ≡ max file.size (off + len) → size ≡ size_after w0 i off len

@@ -12,7 +12,7 @@ use Rattle.ct_base.specs.Walk.{word, word_in, byte, byte_in, page_at, AreTables}
 use Rattle.ct_base.specs.Words.{word_at, place_at, pairs_to, Rewrites}
 use Rattle.ct_image.proofs.Partner.{partner-other}
 use Rattle.ct_image.proofs.Beside.{Beside, beside_cells, beside_count, beside_tables, beside_words}
-use Rattle.ct_image.proofs.Steps.{walk-cell, page_at-low}
+use Rattle.ct_image.proofs.Steps.{walk-cell}
 use Rattle.ct_inode.proofs.Rewritten.{word_inside, word_outside}
 use Rattle.ct_record.specs.Record.{InRecord}
 use Rattle.ct_swap.specs.Swap.{IsEntry, swap_pairs, first_pair, second_pair}
@@ -74,11 +74,6 @@ exchanged_word {old} {new} {a} {b} {n} e v out there =
     same (suc page) ne is = is
 
 -- ---- words on no page of slot 2 or above
-
-pub record_bare : (img : List ℕ) (w : ℕ) → InRecord w → IsBare img w
-record_bare img w inside q high is =
-    let there : page_at img 4 q ≢ 0 = λ z. omega (arith, inside.0, is, z) in
-    omega (arith, inside.1, is, page_at-low img 4 q there)
 
 pub entry_bare : (img : List ℕ) (w : ℕ) → AreTables img → IsEntry img w → IsBare img w
 entry_bare img w tables e q high is =

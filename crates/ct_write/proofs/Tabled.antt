@@ -14,7 +14,8 @@ use Rattle.ct_plan.specs.Few.{AreMet, few_wants}
 use Rattle.ct_plan.proofs.There.{few_met, pages_met, tables_there}
 use Rattle.ct_frames.specs.Agrees.{Agrees}
 use Rattle.ct_frames.specs.Free.{FreePages}
-use Rattle.ct_grow.proofs.Stored.{file_page}
+use Rattle.ct_commit.specs.Closed.{IsClosed}
+use Rattle.ct_commit.proofs.Pages.{file_page, settles_page}
 use Rattle.ct_image.proofs.Steps.{page_at-next, page_at-root}
 use Rattle.ct_pm.specs.Images.{History}
 use Rattle.ct_pm.specs.Device.{LeavesOnly, MakesOnly, NothingPending, StoresOver}
@@ -101,7 +102,8 @@ module _ {w0 : List ℕ} (a b n : ℕ) (rest : IsResting w0) (low : 10 * 2 ^ 27 
   making_spares : ArePlaced (view w0) (inode_count w0) → {before after : FreePages} → Agrees w0 before → (image : List ℕ) (word value : ℕ) → Grown w0 image (few_wants a b n) before after → MayGrow w0 (few_wants a b n) before after word
       → SparesFiles image word value
   making_spares rule agrees image w value g may file =
-      let at = file_page image image (made_shut g) (made_whole g) (made_placed g rule) (same_refl (settled image)) (w / 512) file in
+      let closed : IsClosed image = record { shut = made_shut g; whole = made_whole g; placed = made_placed g rule } in
+      let at = file_page closed (settles_page image closed (same_refl (settled image)) file) in
       let here : page_at w0 4 at.number ≡ w / 512 = sym (made_page g at.number) ∙ at.is in
       elim may [
         | inl taken ↦ agrees.free (w / 512) taken.was 4 at.number (omega arith) here
@@ -186,9 +188,6 @@ module _ {w0 w1 : List ℕ} {start mid : Option History} {before after : FreePag
 
   pub tables_kept : {w2 : List ℕ} → HasAll w1 wants → SeesSame w1 w2 → AreMet w2 (few_wants a b n)
   tables_kept all seen = kept_met a b n rest low some (subst (HasAll w1) asked all) seen
-
-  pub tables_view : view w1 ≡ view w0
-  tables_view = (made_alike a b n rest low some as_asked.grown).bytes
 
   pub range_prepared : {w2 : List ℕ} (edit : Edit) → SeesSame w1 w2 → IsLaid w2 → All (HasTables w2 a b) (pieces a b n)
       → (AreBytes edit → (j o : ℕ) → j < n → o < 4096 → byte w2 ((b + j) * 4096 + o) ≡ edited (view w1) edit ((a + j) * 4096 + o)) → length w2 ≡ length w1 → Prepared w0 w2 a b n edit

@@ -1,6 +1,6 @@
 -- What a crash may leave while a file is written, as the function has it.
-use Rattle.std.proofs.Common.{◌≡◌, ◌⊎◌, ℕ, ◌+◌, ◌<◌, List, subst}
-use Rattle.std.specs.Prelude.{max, slice_index, slice_set, Option}
+use Rattle.std.proofs.Common.{◌≡◌, ◌⊎◌, ℕ, ◌+◌, List, subst}
+use Rattle.std.specs.Prelude.{max, slice_set, Option}
 use Rattle.ct_base.specs.declared.inode.Inode.{Inode}
 use Rattle.ct_base.specs.Inode.{inode}
 use Rattle.ct_base.specs.Plan.{touched}
@@ -12,22 +12,19 @@ use Rattle.ct_grow.specs.Grown.{IsReady}
 use Rattle.ct_pm.specs.Images.{History}
 use Rattle.ct_pm.specs.Device.{LeavesOnly, MakesOnly}
 use Rattle.ct_pm.specs.Phase.{Phase}
-use Rattle.ct_pm.proofs.Phases.{phase_then}
 use Rattle.ct_stage.specs.declared.edit.Given.{Given}
-use Rattle.ct_stage.specs.Edited.{given_at}
-use Rattle.ct_tree.specs.Content.{written as written_bytes}
-use Rattle.ct_tree.specs.Lands.{files}
-use Rattle.ct_tree.specs.Stands.{IsFile}
 use Rattle.ct_write.specs.Prepared.{Prepared}
-use Rattle.ct_write.specs.Recorded.{IsBare, Recorded, SettlesRecorded}
-use Rattle.ct_write.specs.Turned.{IsStateOr}
+use Rattle.ct_write.specs.Recorded.{IsBare, Recorded}
+use Rattle.ct_commit.specs.Closed.{IsStateOr}
 use Rattle.ct_write.specs.Written.{IsBeforeOrAfter, IsEdited, IsWritten, edit_of, side_page, stage_page}
 use Rattle.ct_write.proofs.Changing.{Changing, changed_sound}
 use Rattle.ct_write.proofs.Done.{Calls, IsSize, changing, written}
-use Rattle.ct_write.proofs.Ending.{empties, empty_whole, end_ready, end_written}
+use Rattle.ct_write.proofs.Ending.{empties, end_ready, end_written}
+use Rattle.ct_commit.specs.Made.{Spares}
+use Rattle.ct_commit.proofs.Emptying.{empty_whole}
 use Rattle.ct_write.proofs.Moving.{Staged, calls_with, turns_with}
-use Rattle.ct_write.proofs.Turning.{end_phase, record_phase, still_phase}
-use Rattle.ct_write.proofs.Opening.{Opened, moments_at, recorded_at, settles_at, staged_by, write_total}
+use Rattle.ct_write.proofs.Turning.{bare_spares, empty_phase, record_phase}
+use Rattle.ct_write.proofs.Opening.{Opened, at_file, from_file, recorded_at, staged_by, write_total}
 
 module _ {w0 w1 : List ℕ} {i off len : ℕ} {given : Given} {file : Inode} {a b n : ℕ} {start mid : Option History} (o : Opened w0 i off len given file a b n) (prepared : Prepared w0 w1 a b n (edit_of file off len given)) (before : Phase (SameState w0) 0 start mid w1)
     {size : ℕ} (sized : IsSize w0 i off len given size) where
@@ -40,10 +37,14 @@ module _ {w0 w1 : List ℕ} {i off len : ℕ} {given : Given} {file : Inode} {a 
   then : (after : List ℕ) → Recorded w1 after i (side_page (inode (view w0) i) off) (stage_page (inode (view w0) i) off) (touched off len) size → IsEdited w0 after i off len given size
   then after r = written (calls_with staged r)
 
+  -- no word that the record may name lies on a page of a live file
+  pub told_spares : Spares w1 (λ after. Recorded w1 after i a b n size) (IsBare w1)
+  told_spares = from_file o (λ x y z. Spares w1 (λ after. Recorded w1 after i x y z size) (IsBare w1)) (bare_spares (turns_with staged))
+
   -- up to the end of the record
-  pub record_told : {now : List ℕ} {told : Option History} → LeavesOnly mid told (SettlesRecorded w1 i a b n size) → SettlesRecorded w1 i a b n size now → MakesOnly (λ word value. IsBare w1 word) mid told
-      → Phase (IsStateOr w0 (λ after. IsEdited w0 after i off len given size)) 5111 start told now
-  record_told images reads made = phase_then (still_phase Then before) (record_phase Then (turns_with staged) then (moments_at o images) (settles_at o reads) made)
+  pub record_told : {now : List ℕ} {told : Option History} → Phase (IsStateOr w1 (λ after. Recorded w1 after i a b n size)) 5111 mid told now → Phase (IsStateOr w0 (λ after. IsEdited w0 after i off len given size)) 5111 start told now
+  record_told {now} {told} phase =
+      record_phase (turns_with staged) Then then before (at_file o (λ x y z. Phase (IsStateOr w1 (λ after. Recorded w1 after i x y z size)) 5111 mid told now) phase)
 
   module _ {w2 : List ℕ} (records : Recorded w1 w2 i a b n size) (shut : IsShut w2) where
     calls : Calls w0 w1 w2 i off len given size
@@ -52,7 +53,7 @@ module _ {w0 w1 : List ℕ} {i off len : ℕ} {given : Given} {file : Inode} {a 
     -- and while the slot is emptied
     pub end_told : {now : List ℕ} {then told : Option History} → Phase (IsStateOr w0 (λ after. IsEdited w0 after i off len given size)) 5111 start then w2 → LeavesOnly then told (λ image. (image ≡ w2) ⊎ (image ≡ slice_set w2 16898 0)) → (now ≡ w2) ⊎ (now ≡ slice_set w2 16898 0)
         → MakesOnly (λ at put. (at ≡ 16898) × (put ≡ 0)) then told → Phase (IsStateOr w0 (λ after. IsEdited w0 after i off len given size)) 5111 start told now
-    end_told phase images reads made = phase_then phase (end_phase Then (turns_with staged) then (recorded_at o records) shut images reads made)
+    end_told phase images reads made = empty_phase (turns_with staged) Then then (recorded_at o records) shut phase images reads made
 
     module _ {w3 : List ℕ} (is : w3 ≡ slice_set w2 16898 0) where
       pub done_written : IsEdited w0 w3 i off len given size

@@ -5,7 +5,7 @@ use Rattle.ct_base.specs.Inode.{inode, IsLive, part_bytes}
 use Rattle.ct_base.specs.View.{view, inode_count}
 use Rattle.ct_base.specs.Walk.{word, byte, page_at}
 use Rattle.ct_grow.specs.Grown.{IsReady}
-use Rattle.ct_write.specs.Turned.{IsStateOr}
+use Rattle.ct_commit.specs.Closed.{IsStateOr}
 
 -- The call may be made: the rules on inodes, partitions and headers hold, both gates are closed and root slot 2 is empty,
 -- and the inode is a file that is shorter and whose partition holds the length.

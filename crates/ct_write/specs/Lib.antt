@@ -1,5 +1,4 @@
 pub mod Lengthened
 pub mod Prepared
 pub mod Recorded
-pub mod Turned
 pub mod Written

@@ -3,11 +3,8 @@ use Rattle.std.specs.Prelude.{◌≡◌, ◌≢◌, ℕ, ◌+◌, ◌*◌, ◌/�
 use Rattle.ct_base.specs.declared.layout.TheConstants.{ADDRESS_END, INODE_BYTES, MOST_INODES, PAGE_BYTES, PAGE_WORDS, PARTITION_SLOT, SLOT_PAGES, STAGING_SLOT}
 use Rattle.ct_base.specs.Exchange.{Exchanged, HasTables}
 use Rattle.ct_base.specs.Pieces.{pieces}
-use Rattle.ct_base.specs.Settled.{HasFewPairs, IsShut, Named, open_pairs}
 use Rattle.ct_base.specs.Walk.{word, byte, page_at, AreTables}
-use Rattle.ct_base.specs.declared.limits.TheConstants.{MOST_CALL_PAIRS}
 use Rattle.ct_words.specs.Shown.{shown_word}
-use Rattle.ct_record.specs.Record.{SettlesTo}
 
 -- the device word lies on no page from root slot 2 on
 abbrev pub IsBare : List ℕ → ℕ → Type 0
@@ -43,21 +40,3 @@ pub record CanRecord (img : List ℕ) (i a b n len : ℕ) : Type 0 where
   pub second_to : b + n ≤ (STAGING_SLOT + 1) * SLOT_PAGES
   pub tables : All (HasTables img a b) (pieces a b n)
   pub few : length (pieces a b n) ≤ 2555
-
--- the image settles to words with closed gates of which this holds
-pub record SettlesAfter (Done : List ℕ → Type 0) (image : List ℕ) : Type 0 where
-  pub after : List ℕ
-  pub done : Done after
-  pub shut : IsShut after
-  pub settles : SettlesTo after image
-
--- The record is lawful and has few pairs, the open ones name bare words, and the image settles to the words without it or
--- with all of it.
-pub record SettlesOr (words : List ℕ) (Done : List ℕ → Type 0) (image : List ℕ) : Type 0 where
-  pub few : HasFewPairs MOST_CALL_PAIRS image
-  pub names : (w : ℕ) → Named (open_pairs image) w → IsBare words w
-  pub to : SettlesTo words image ⊎ SettlesAfter Done image
-
--- the same of the record of a write
-abbrev pub SettlesRecorded : List ℕ → ℕ → ℕ → ℕ → ℕ → ℕ → List ℕ → Type 0
-SettlesRecorded words i a b n size image = SettlesOr words (λ after. Recorded words after i a b n size) image

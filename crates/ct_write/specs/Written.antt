@@ -11,7 +11,7 @@ use Rattle.ct_stage.specs.declared.edit.Edit.{Edit}
 use Rattle.ct_stage.specs.declared.edit.Given.{Given}
 use Rattle.ct_stage.specs.declared.edit.Given.TheVariants.{Same, Listed}
 use Rattle.ct_stage.specs.Edited.{edited}
-use Rattle.ct_write.specs.Turned.{IsStateOr}
+use Rattle.ct_commit.specs.Closed.{IsStateOr}
 use Rattle.ct_write.specs.declared.data.Data.{Data}
 use Rattle.ct_write.specs.declared.data.Data.TheVariants.{Bytes, Fill}
 

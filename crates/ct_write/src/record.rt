@@ -4,10 +4,13 @@ ghost use Rattle.ct_base.specs.Causes.{HasCause};
 ghost use Rattle.ct_base.specs.Settled.{IsShut, Named};
 ghost use Rattle.ct_base.specs.Walk.{page_at, AreTables};
 ghost use Rattle.ct_words.specs.Shown.{shown_word};
-ghost use Rattle.ct_pm.specs.Device.{LeavesOnly, MakesOnly, NothingPending};
+ghost use Rattle.ct_commit.specs.Closed.{IsStateOr};
+ghost use Rattle.ct_commit.specs.Made.{Spares};
+ghost use Rattle.ct_pm.specs.Device.{NothingPending};
+ghost use Rattle.ct_pm.specs.Phase.{Phase};
 ghost use Rattle.ct_record.specs.Seen.{Drafts, count_of, device_behind, drafted, faults_under, pairs_of, words_under};
 ghost use Rattle.ct_words.specs.Drafted.{MapsAlike};
-ghost use Rattle.ct_write.specs.Recorded.{CanRecord, IsBare, Recorded, SettlesRecorded, Sized};
+ghost use Rattle.ct_write.specs.Recorded.{CanRecord, IsBare, Recorded, Sized};
 
 use ct_base::{INODE_BYTES, MOST_CALL_PAIRS, MOST_INODES, MOST_LONG_PAIRS, PAGE_BYTES};
 use ct_inode::place;
@@ -80,14 +83,13 @@ pub fn write_now<D: Pm>(
     requires shut { IsShut (D.words dev) }
     requires settled { NothingPending (D.told dev) }
     requires can { CanRecord (D.words dev) inode a b n was }
+    requires spares { Spares (D.words dev) (λ new. Recorded (D.words dev) new inode a b n size) (IsBare (D.words dev)) }
     ensures recorded { OnOk result (Recorded (D.words dev) (D.words (device_behind result)) inode a b n size) }
     ensures shut { OnOk result (IsShut (D.words (device_behind result))) }
     ensures settled { OnOk result (NothingPending (D.told (device_behind result))) }
 
-    // A crash at any moment leaves a lawful record of at most 5,111 pairs, and settles to the words before it or after it.
-    ensures any_moment { LeavesOnly (D.told dev) (D.told (device_behind result)) (SettlesRecorded (D.words dev) inode a b n size) }
-    ensures reads { SettlesRecorded (D.words dev) inode a b n size (D.words (device_behind result)) }
-    ensures made { MakesOnly (λ word value. IsBare (D.words dev) word) (D.told dev) (D.told (device_behind result)) }
+    // A crash at any moment settles to the state before the record or after it.
+    ensures phase { Phase (IsStateOr (D.words dev) (λ new. Recorded (D.words dev) new inode a b n size)) MOST_CALL_PAIRS (D.told dev) (D.told (device_behind result)) (D.words (device_behind result)) }
     ensures cause { HasCause (D.faults dev) (D.faults (device_behind result)) result }
 {
     let mut draft = Draft::begin(Idle::of(dev));

@@ -6,7 +6,7 @@ ghost use Rattle.ct_pm.specs.Device.{NothingPending};
 use ct_base::{StdSink, StdSource};
 use ct_pm::{Pm, RamPm};
 use ct_run::{Status, run};
-use pm_file::{AttachFault, FilePm};
+use pm_file::{AttachFault, FileLock, FilePm};
 use std::alloc::Global;
 use std::process::ExitCode;
 use std::{env, io};
@@ -26,18 +26,24 @@ mem     makes a file system in memory, runs the script of standard input over it
         and writes one line to standard output for each line of the script that is
         not empty
           ctsh mem < first.ctsh
-format  makes an empty file system of all whole 4096-byte pages of a file that is
-        there, 256 to 262144 of them, with so many inodes, 2 to 1048576
+format  makes an empty file system of all whole 4096-byte pages of a regular file
+        that is there, 256 to 262144 of them, with so many inodes, 2 to 1048576;
+        what the file held is lost
           head -c 64M /dev/zero > disk.img; ctsh format disk.img 4096
 run     mounts the file system in a file, and runs the script as mem does; a call
         that a crash cut off is done whole or not at all
           ctsh run disk.img < first.ctsh
 dump    mounts the file system in a file as run does, and writes the script that
-        makes its files and directories on an empty one; reads no script
-          ctsh dump disk.img > again.ctsh; ctsh mem < again.ctsh
+        makes its files and directories on an empty one; reads no script. It may
+        be longer than the 16777216 bytes that a script may have: split it then,
+        at the ends of lines
+          ctsh dump disk.img > all; split -C 16M all part.
+          for part in part.*; do ctsh run empty.img < $part; done
 gen     makes a file system in memory as mem does, and 16 files; makes COUNT calls
         over it that a number gives, at most 1000000, and writes what they came to
           ctsh gen 7 10000
+
+A run over a file waits while another has it.
 
 Lines of a script:
   create PATH   makes an empty file
@@ -62,7 +68,18 @@ Lines of a script:
   where PATH    tells the address and the level of a file's partition
   read PATH OFF LEN
                 tells at most LEN bytes of a file from OFF on, as hexadecimal digits
-Any other line is answered with 'error line'. In a path %XX is the byte XX.
+Any other line that is not empty is answered with 'error line'. In a path %XX is
+the byte XX.
+
+Exit status, with a line on standard error where it is not 0:
+  0  done
+  2  the words are no command
+  3  the file holds no file system, or a damaged one: the first rule that it breaks
+  4  the file is not there, or cannot be read, written or synced
+  5  standard input cannot be read
+  6  standard output cannot be written
+  7  no memory
+  8  the script has over 16777216 bytes, or a path in the dump over 4096
 ";
 
 /// Why the words are not known.
@@ -76,6 +93,7 @@ fn words(rt: &HostRuntime, alloc: Global) -> Result<Vec<String>, WordsEnd> {
     let mut words = Vec::new(alloc);
     let all = match env::args(rt) {
         Ok(all) => all,
+        Err(error) if error.kind() == io::ErrorKind::OutOfMemory => return Err(WordsEnd::NoMemory),
         Err(_) => return Err(WordsEnd::NotText),
     };
     for word in all.skip(1) {
@@ -134,8 +152,19 @@ fn run_in_memory(rt: &HostRuntime, alloc: Global, words: &[String]) -> Status {
     }
 }
 
-/// Runs the words over a file, which has to be there.
+/// Locks a file against other runs for as long as the lock is there, and says so where it has to wait for one.
+fn locked(rt: &HostRuntime, name: &str) -> FileLock {
+    let lock = FileLock::open(rt, name);
+    if !lock.try_lock() {
+        let _ = eprintln!(rt; "ctsh: waiting for another run over {name}");
+        lock.lock();
+    }
+    lock
+}
+
+/// Runs the words over a file, which has to be there. Other runs over it wait until this one has ended.
 fn run_in_file(rt: &HostRuntime, alloc: Global, words: &[String], name: &str) -> Status {
+    let _lock = locked(rt, name);
     match FilePm::attach(rt, alloc, name) {
         Ok(dev) => run_over(rt, alloc, words, dev),
         Err(AttachFault::NoMemory) => Status::NoMemory,

@@ -66,3 +66,14 @@ fn some_files_cannot_be_attached(rt: HostRuntime) -> Result<(), Fail> {
     assert!(rt; !fs::exists(&rt, "not there")?);
     Ok(())
 }
+
+#[test]
+fn faults_of_attaching_have_texts(rt: HostRuntime) -> Result<(), Fail> {
+    let texts = [AttachFault::File, AttachFault::NoMemory];
+    let found = format!(in rt.alloc(); "{}; {}", texts[0], texts[1])?;
+    assert_eq!(rt;
+        found.as_str(),
+        "the file cannot be opened, measured or read; no memory"
+    );
+    Ok(())
+}

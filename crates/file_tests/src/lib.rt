@@ -6,6 +6,14 @@
 #[cfg(test)]
 mod devices;
 #[cfg(test)]
+mod fences;
+#[cfg(test)]
 mod files;
+#[cfg(test)]
+mod fixture;
+#[cfg(test)]
+mod passed_over;
+#[cfg(test)]
+mod recording;
 #[cfg(test)]
 mod runs;

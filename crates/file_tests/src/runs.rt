@@ -38,6 +38,28 @@ fn a_file_keeps_what_runs_leave(rt: HostRuntime) -> Result<(), Fail> {
     Ok(())
 }
 
+// A fill of more than 1,024 lines, which a fence writes in more than one piece.
+#[test]
+fn a_long_fill_comes_back(rt: HostRuntime) -> Result<(), Fail> {
+    let name = "file_tests_fill.img";
+    make(&rt, name, PAGE_BYTES * 2 * LEAST_PAGES)?;
+    for (line, script, replies) in [
+        ("format x 16", "", ""),
+        ("run x", "create /a\nfill /a 0 300000 65\n", "ok\nok\n"),
+        (
+            "run x",
+            "read /a 65530 12\nread /a 299990 20\n",
+            "data 414141414141414141414141\ndata 41414141414141414141\n",
+        ),
+    ] {
+        let left = left_by(&rt, name, line, script)?;
+        let found = (left.status, left.out.bytes());
+        assert_eq!(rt; found, (Status::Done, replies.as_bytes()));
+    }
+    fs::remove_file(&rt, name)?;
+    Ok(())
+}
+
 // The status of a run over a file, and the length and the head of the file after it.
 fn told(rt: &HostRuntime, name: &str, line: &str) -> Result<(Status, u8, (u64, [u8; 8])), Fail> {
     let left = left_by(rt, name, line, "create /a\n")?;

@@ -13,13 +13,13 @@ use Rattle.ct_dir.proofs.Held.{part_bounds}
 use Rattle.ct_frames.specs.Agrees.{Agrees}
 use Rattle.ct_frames.specs.Free.{FreePages, rising}
 use Rattle.ct_format.proofs.Fresh.{fresh_agrees, new_mounted}
-use Rattle.ct_call.proofs.Neutral.{grown_rests}
+use Rattle.ct_call.proofs.Neutral.{grown_rests, grown_unstaged}
 use Rattle.ct_fs.proofs.Ready.{ready_dev}
-use Rattle.ct_call.proofs.Resting.{mounted_rest}
 use Rattle.ct_call.proofs.Rooms.{ready_here}
 use Rattle.ct_enter.proofs.Wanted.{entry_owned}
 use Rattle.ct_format.specs.Made.{IsNew}
-use Rattle.ct_call.specs.Mounted.{AreOwned, IsAtRest, IsMounted, Volume}
+use Rattle.ct_call.specs.Mounted.{AreOwned, Volume}
+use Rattle.ct_commit.specs.Rest.{IsAtRest, IsMounted, IsUnstaged}
 use Rattle.ct_call.specs.Seen.{device_in, ready_in}
 use Rattle.ct_fs.specs.Mounts.{device_of, fs_dev, mounts}
 use Rattle.ct_fs.specs.declared.system.Fs.{Fs}
@@ -65,18 +65,18 @@ module _ {w : List ℕ} (r : IsAtRest w) where
   own_object i from to f is used has =
       subst (λ (g : Inode). IsPart (part g)) (sym is) (room_of i from to (subst (λ (g : Inode). g.kind ≢ 0) is used) (subst (λ (g : Inode). g.level ≢ 15) is has)).part
 
-  object_grows : (i : ℕ) → 1 ≤ i → i ≤ 2 → (level : ℕ) → (inode (view w) i).kind ≢ 0 → level ≤ 9 → ((inode (view w) i).level ≡ 15) ⊎ ((inode (view w) i).level < level) → free_parts (live_parts (view w) (inode_count w)) level ≢ [] → CanGrow w i level
-  object_grows i from to level used fits more some = record {
-    ready = ready_here r;
+  object_grows : IsUnstaged w → (i : ℕ) → 1 ≤ i → i ≤ 2 → (level : ℕ) → (inode (view w) i).kind ≢ 0 → level ≤ 9 → ((inode (view w) i).level ≡ 15) ⊎ ((inode (view w) i).level < level) → free_parts (live_parts (view w) (inode_count w)) level ≢ [] → CanGrow w i level
+  object_grows none i from to level used fits more some = record {
+    ready = ready_here r none;
     live = record { number = record { from = from; to = omega (arith, to, r.head.inodes.0) }; used = used };
     fits = fits;
     more = more;
     some = some;
   }
 
-  pub grows : (i : ℕ) → 1 ≤ i → i ≤ 2 → (level : ℕ) (f : Inode) → f ≡ inode (view w) i → f.kind ≢ 0 → level ≤ 9 → (f.level ≡ 15) ⊎ (f.level < level) → free_parts (live_parts (view w) (inode_count w)) level ≢ [] → CanGrow w i level
-  grows i from to level f is used fits more some =
-      object_grows i from to level (subst (λ (g : Inode). g.kind ≢ 0) is used) fits (subst (λ (g : Inode). (g.level ≡ 15) ⊎ (g.level < level)) is more) some
+  pub grows : IsUnstaged w → (i : ℕ) → 1 ≤ i → i ≤ 2 → (level : ℕ) (f : Inode) → f ≡ inode (view w) i → f.kind ≢ 0 → level ≤ 9 → (f.level ≡ 15) ⊎ (f.level < level) → free_parts (live_parts (view w) (inode_count w)) level ≢ [] → CanGrow w i level
+  grows none i from to level f is used fits more some =
+      object_grows none i from to level (subst (λ (g : Inode). g.kind ≢ 0) is used) fits (subst (λ (g : Inode). (g.level ≡ 15) ⊎ (g.level < level)) is more) some
 
   -- the page at an offset in its partition may be made
   pub root_owned : (offset at : ℕ) (f : Inode) → f ≡ root → f.kind ≢ 0 → f.level ≤ 9 → offset < part_bytes f.level → at ≡ f.base + offset → AreOwned w (page_want at ∷ page_want 64 ∷ [])
@@ -101,9 +101,11 @@ module _ {w : List ℕ} (r : IsAtRest w) where
 
 -- ---- the pages made
 
-pub filled_rest : {w new : List ℕ} {one two : Want} {before after : FreePages} (at : ℕ) → IsAtRest w → one ≡ page_want at → two ≡ page_want 64 → AreOwned w (page_want at ∷ page_want 64 ∷ []) → Grown w new (one ∷ two ∷ []) before after → IsAtRest new
-filled_rest {w} {new} {one} {two} at r is_one is_two owned grown =
-    grown_rests r grown (subst (λ (x : Want). AreOwned w (x ∷ two ∷ [])) (sym is_one) (subst (λ (y : Want). AreOwned w (page_want at ∷ y ∷ [])) (sym is_two) owned))
+pub filled : {w new : List ℕ} {one two : Want} {before after frames : FreePages} {start told : Option History} (at : ℕ) → IsMounted w start frames → one ≡ page_want at → two ≡ page_want 64 → AreOwned w (page_want at ∷ page_want 64 ∷ []) → Grown w new (one ∷ two ∷ []) before after
+    → NothingPending told → Agrees new after → IsMounted new told after
+filled {w} {new} {one} {two} at m is_one is_two owned grown settled agrees =
+    let own = subst (λ (x : Want). AreOwned w (x ∷ two ∷ [])) (sym is_one) (subst (λ (y : Want). AreOwned w (page_want at ∷ y ∷ [])) (sym is_two) owned) in
+    record { rest = grown_rests m.rest grown own; unstaged = grown_unstaged m.rest grown own m.unstaged; settled = settled; agrees = agrees }
 
 -- ---- frames
 
@@ -116,15 +118,15 @@ agrees_alike agrees pages alike = record {
 
 -- ---- mounts
 
-pub mounted : {w : List ℕ} {told : Option History} {frames : FreePages} → IsAtRest w → NothingPending told → Agrees w frames → IsMounted w told frames
-mounted r settled agrees = record { head = r.head; sound = r.sound; shut = r.shut; unstaged = r.unstaged; tables = r.tables; settled = settled; agrees = agrees }
+pub mounted : {w : List ℕ} {told : Option History} {frames : FreePages} → IsAtRest w → IsUnstaged w → NothingPending told → Agrees w frames → IsMounted w told frames
+mounted r none settled agrees = record { rest = r; unstaged = none; settled = settled; agrees = agrees }
 
 -- a new image, with the pages after its own
 new_device : {img : List ℕ} {frames other : FreePages} {pages n : ℕ} {told : Option History} (count : ℕ) → IsNew img frames pages n → NothingPending told → count ≡ pages → 256 ≤ count
     → other ≡ record { pages = count; free = rising (count - 42) 42 } → IsMounted img told other
 new_device {img} {other = other} {pages = pages} count new settled same many is =
     let here : other ≡ record { pages = pages; free = rising (pages - 42) 42 } = subst (λ (m : ℕ). other ≡ record { pages = m; free = rising (m - 42) 42 }) same is in
-    mounted (mounted_rest (new_mounted new settled)) settled (subst (Agrees img) (sym here) (fresh_agrees new.formatted (omega (arith, same, many))))
+    mounted (new_mounted new settled).rest (new_mounted new settled).unstaged settled (subst (Agrees img) (sym here) (fresh_agrees new.formatted (omega (arith, same, many))))
 
 some_and : {A : Type 0} (P : A → Type 0) (o : Option A) → IsSomeAnd o P → (x : A) × (o ≡ Some x) × P x
 some_and P None h = absurd h

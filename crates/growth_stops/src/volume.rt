@@ -4,7 +4,8 @@ ghost use Rattle.ct_base.specs.Inode.{IsPart, free_parts, inode as inode_at, liv
 ghost use Rattle.ct_base.specs.Plan.{growth_need, next_part, page_want};
 ghost use Rattle.ct_base.specs.View.{inode_count, view};
 ghost use Rattle.ct_frames.specs.Free.{rising};
-ghost use Rattle.ct_call.specs.Mounted.{AreOwned, IsAtRest, IsMounted, Volume};
+ghost use Rattle.ct_call.specs.Mounted.{AreOwned, Volume};
+ghost use Rattle.ct_commit.specs.Rest.{IsAtRest, IsMounted, IsUnstaged};
 ghost use Rattle.ct_grow.specs.Grown.{CanGrow};
 ghost use Rattle.ct_pm.specs.Device.{NothingPending};
 
@@ -128,6 +129,7 @@ fn page_at(at: u64) -> Option<Want>
 // Where the partition begins that growth to a level takes, `None` where none is free.
 fn next_base<D: Pm>(dev: &D, level: u32) -> Option<Vaddr>
     requires rest { IsAtRest (D.words dev.now) }
+    requires unstaged { IsUnstaged (D.words dev.now) }
     requires level { level ≤ TOP_LEVEL }
     ensures some { IfSome result (λ base. free_parts (live_parts (view (D.words dev.now)) (inode_count (D.words dev.now))) level ≢ []) }
     ensures part { IfSome result (λ base. IsPart (record { base = base; level = level })) }
@@ -142,6 +144,7 @@ fn next_base<D: Pm>(dev: &D, level: u32) -> Option<Vaddr>
 // Whether the root directory or the inode after it may grow to a level, and the pages for that are free.
 fn can_grow<D: Pm>(dev: &D, frames: &Frames, number: u64, level: u32) -> bool
     requires rest { IsAtRest (D.words dev.now) }
+    requires unstaged { IsUnstaged (D.words dev.now) }
     requires from { 1 ≤ number }
     requires to { number ≤ FILE }
     ensures can { IsTrue result → CanGrow (D.words dev.now) number level }

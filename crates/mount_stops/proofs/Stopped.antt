@@ -1,5 +1,5 @@
 -- Mounts that stop, one after another.
-use Rattle.std.proofs.Common.{◌≡◌, ℕ, ◌<◌, List, [], ◌∷◌, Some, Result, Ok, Err, length, refl, ap, subst, arith}
+use Rattle.std.proofs.Common.{◌≡◌, ℕ, ◌<◌, List, [], ◌∷◌, Some, Result, Ok, Err, subst}
 use Rattle.std.specs.Prelude.{IfOk}
 use Rattle.ct_base.specs.State.{SameState}
 use Rattle.ct_base.specs.View.{inode_count}
@@ -14,8 +14,6 @@ use Rattle.ct_state.proofs.States.{state_lands, state_then}
 use Rattle.ct_tree.specs.Lands.{Lands}
 use Rattle.ct_tree.specs.Ordered.{IsTree}
 use Rattle.ct_tree.specs.Tree.{Tree}
-use Rattle.mount_stops.specs.Stops.{faults_before}
-use Rattle.mount_stops.specs.declared.through.Stop.{Stop}
 use Rattle.pm_trace.specs.Meaning.{faults_of, history, words_of}
 use Rattle.pm_trace.specs.declared.trace.TracePm.{TracePm}
 
@@ -30,10 +28,6 @@ pub record IsLeft (was now : TracePm) (stops : ℕ) : Type 0 where
   pub settled : IsSettled (history now)
   pub first : stops ≡ 0 → now ≡ was
   pub later : 0 < stops → faults_of now ≡ 0
-
-pub left_faults : (stops : List Stop) (was now : TracePm) → IsLeft was now (length stops) → faults_of now ≡ faults_before stops was
-left_faults [] was now l = ap faults_of (l.first refl)
-left_faults (stop ∷ stops) was now l = l.later (omega arith)
 
 module _ {was now : TracePm} {stops : ℕ} (l : IsLeft was now stops) where
   -- the last mount answers to the words at entry

@@ -9,6 +9,7 @@ use ct_base::{MemSink, MemSource};
 use ct_fs::format;
 use ct_pm::{Pm, Step};
 use ct_run::Status;
+use ct_tree::Call;
 use pm_trace::TracePm;
 use record_stops::{IMAGES, Image, choices};
 use script_runs::{Left, ran, ran_between};
@@ -16,10 +17,29 @@ use std::alloc::Global;
 use std::process::Abort;
 use std::test::Fail;
 
-// The calls that are made before a rename.
-const WRITES: &str = "create /a\nwrite /a 0 41\nwrite /a 4095 4242\n";
+// The calls of the script, of which the last is a rename.
+const CALLS: [Call<'static>; 4] = [
+    Call::Create { path: b"/a" },
+    Call::Write {
+        path: b"/a",
+        off: 0,
+        bytes: b"A",
+    },
+    Call::Write {
+        path: b"/a",
+        off: 4095,
+        bytes: b"BB",
+    },
+    Call::Rename {
+        path: b"/a",
+        to: b"/b",
+    },
+];
 
+// Their lines, and those before the rename.
 const SCRIPT: &str = "create /a\nwrite /a 0 41\nwrite /a 4095 4242\nrename /a /b\n";
+
+const WRITES: &str = "create /a\nwrite /a 0 41\nwrite /a 4095 4242\n";
 
 // The length of the line that says ok.
 const OK: u64 = 3;
@@ -58,7 +78,7 @@ fn check_left(rt: &impl Abort, alloc: Global, left: &Left<TracePm>) -> Result<()
     for image in IMAGES {
         let choice = choices(alloc, image, LINES)?;
         assert!(rt;
-            is_before_or_after(alloc, &left.dev, &choice, written / OK)?,
+            is_before_or_after(alloc, &left.dev, &choice, &CALLS, written / OK)?,
             "{image:?} after {written} bytes"
         );
     }

@@ -4,10 +4,10 @@ ghost use Rattle.ct_pm.specs.Images.{IsSettled};
 ghost use Rattle.pm_fuse.specs.Fuse.{inner};
 ghost use Rattle.pm_trace.specs.Meaning.{history};
 
-use crate::script::{ENDLESS, LINES, found, run};
+use crate::script::{self, ENDLESS, LINES, found, run};
 use create_stops::reader::{inode_word, word_at};
 use ct_base::{LONG_GATE, SHORT_GATE};
-use ct_fs::{Stop, mount, mount_through};
+use ct_fs::{Stop, format, mount, mount_through};
 use ct_pm::{Pm, Step};
 use ct_write::Data;
 use growth_stops::{Growth, Start, Stopping, with_file};
@@ -190,4 +190,45 @@ fn a_recovery_of_a_write_stops(rt: HostRuntime) -> Result<(), Fail> {
     assert!(rt; dev.clock() < whole.clock());
     assert!(rt; is_mounted_through(alloc, &whole, u64::MAX, Image::Reads, &Bytes)?);
     stop_each(&rt, alloc, &dev, 10, &Bytes)
+}
+
+// A file of two bytes that calls made, after a crash that leaves the image as it reads.
+fn file_of_two(alloc: Global) -> Result<TracePm, Fail>
+    ensures { IfOk result (λ left. IsSettled (history left)) }
+{
+    let mut fs = match format(alloc, script::blank(alloc)?, 16) {
+        Ok(fs) => fs,
+        Err(_) => return Err(Fail::from("format")),
+    };
+    let made = (fs.create(b"/a"), fs.write(b"/a", 0, b"hi"));
+    let dev = fs.unmount();
+    if made != (Ok(()), Ok(())) {
+        return Err(Fail::from("a call"));
+    }
+    let choice = choices(alloc, Image::Reads, LINES)?;
+    Ok(dev.crash(alloc, &choice, Vec::new(alloc))?)
+}
+
+// What a mount through no stop reads of it: how many bytes, and these.
+fn read_through_no_stop(alloc: Global, left: TracePm) -> Option<(u64, [u8; 10])>
+    requires { IsSettled (history left) }
+{
+    let stops: [Stop; 0] = [];
+    match mount_through(alloc, left, &stops) {
+        Ok(fs) => {
+            let mut bytes = [0u8; 10];
+            let count = fs.read(b"/a", 0, 10, &mut bytes);
+            let _dev = fs.unmount();
+            Some((count.ok()?, bytes))
+        }
+        Err(_) => None,
+    }
+}
+
+#[test]
+fn a_mount_through_no_stop_reads_what_was_written(rt: HostRuntime) -> Result<(), Fail> {
+    let alloc = rt.alloc();
+    let found = read_through_no_stop(alloc, file_of_two(alloc)?);
+    assert_eq!(rt; found, Some((2, *b"hi\0\0\0\0\0\0\0\0")));
+    Ok(())
 }

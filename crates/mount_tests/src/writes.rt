@@ -92,10 +92,10 @@ fn ran(alloc: Global, calls: u64, passes: u64) -> Result<(TracePm, u64), Fail> {
     Ok((fs.unmount().into_inner(), done))
 }
 
-// The plain tree after so many of the calls.
-fn tree_after(alloc: Global, calls: u64) -> Result<PlainTree, Fail> {
+// The plain tree after so many of these calls.
+fn tree_after(alloc: Global, calls: &[Call<'_>], count: u64) -> Result<PlainTree, Fail> {
     let mut tree = PlainTree::new(alloc)?;
-    for call in CALLS.iter().take(calls as usize) {
+    for call in calls.iter().take(count as usize) {
         let _reply = tree.call(call)?;
     }
     Ok(tree)
@@ -119,19 +119,24 @@ fn are_alike<D: Pm>(fs: &mut Fs<D>, tree: &mut PlainTree, path: &[u8]) -> Result
     is_alike(fs, tree, &Call::Stat { path })
 }
 
-// Whether a file system holds the tree after so many of the calls.
-fn is_after<D: Pm>(alloc: Global, fs: &mut Fs<D>, calls: u64) -> Result<bool, Fail> {
-    let mut tree = tree_after(alloc, calls)?;
+// Whether a file system holds the tree after so many of these calls.
+fn is_after<D: Pm>(
+    alloc: Global,
+    fs: &mut Fs<D>,
+    calls: &[Call<'_>],
+    count: u64,
+) -> Result<bool, Fail> {
+    let mut tree = tree_after(alloc, calls, count)?;
     Ok(are_alike(fs, &mut tree, b"/a")? && are_alike(fs, &mut tree, b"/b")?)
 }
 
-// Whether what is left mounts, and holds the tree after so many of the calls.
-fn holds_after(alloc: Global, left: TracePm, calls: u64) -> Result<bool, Fail>
+// Whether what is left mounts, and holds the tree after so many of these calls.
+fn holds_after(alloc: Global, left: TracePm, calls: &[Call<'_>], count: u64) -> Result<bool, Fail>
     requires { IsSettled (history left) }
 {
     match mount(alloc, left) {
         Ok(mut fs) => {
-            let after = is_after(alloc, &mut fs, calls);
+            let after = is_after(alloc, &mut fs, calls, count);
             let _dev = fs.unmount();
             after
         }
@@ -139,19 +144,20 @@ fn holds_after(alloc: Global, left: TracePm, calls: u64) -> Result<bool, Fail>
     }
 }
 
-/// Whether an image of what is left holds the tree before the next call or after it.
+/// Whether an image of what is left holds the tree after so many of these calls, or after one more.
 pub fn is_before_or_after(
     alloc: Global,
     dev: &TracePm,
     choice: &[u64],
+    calls: &[Call<'_>],
     done: u64,
 ) -> Result<bool, Fail> {
     let left = dev.crash(alloc, choice, Vec::new(alloc))?;
-    if holds_after(alloc, left, done)? {
+    if holds_after(alloc, left, calls, done)? {
         return Ok(true);
     }
     let left = dev.crash(alloc, choice, Vec::new(alloc))?;
-    holds_after(alloc, left, done.saturating_add(1))
+    holds_after(alloc, left, calls, done.saturating_add(1))
 }
 
 // Stops the calls after so many calls of the device, and mounts three images of what is left, and one in which each line
@@ -161,13 +167,13 @@ fn stop_after(rt: &impl Abort, alloc: Global, passes: u64) -> Result<(), Fail> {
     for image in IMAGES {
         let choice = choices(alloc, image, LINES)?;
         assert!(rt;
-            is_before_or_after(alloc, &dev, &choice, done)?,
+            is_before_or_after(alloc, &dev, &choice, &CALLS, done)?,
             "{image:?} after {passes} steps"
         );
     }
     let choice = scattered(alloc, dev.clock(), passes)?;
     assert!(rt;
-        is_before_or_after(alloc, &dev, &choice, done)?,
+        is_before_or_after(alloc, &dev, &choice, &CALLS, done)?,
         "scattered after {passes} steps"
     );
     Ok(())

@@ -1,7 +1,16 @@
-// Lines and replies by themselves.
-use ct_base::MemSink;
+// Lines and replies by themselves, and the texts of errors and statuses.
+use ct_base::{MemSink, NoMemory, ReadFault, WriteFault};
+use ct_check::CheckFault;
+use ct_dump::DumpFault;
+use ct_fs::{FsError, Why};
+use ct_path::PathFault;
+use ct_pm::PmFault;
+use ct_run::Status;
 use ct_script::{Scratch, Shown, parse, put_reply};
 use ct_tree::{Call, Refusal};
+use std::alloc::Global;
+use std::fmt::Display;
+use std::process::Abort;
 use std::test::Fail;
 
 // Lines that are no calls, one after the other.
@@ -48,4 +57,72 @@ fn replies_are_lines(rt: HostRuntime) -> Result<(), Fail> {
         assert_eq!(rt; out.bytes(), want.as_bytes());
     }
     Ok(())
+}
+
+// Checks the text of each value.
+fn check_texts<T: Display>(rt: &impl Abort, alloc: Global, rows: &[(T, &str)]) -> Result<(), Fail> {
+    for (value, want) in rows {
+        let text = format!(in alloc; "{value}")?;
+        assert_eq!(rt; text.as_str(), *want);
+    }
+    Ok(())
+}
+
+// What a program says that ends so.
+const STATUSES: [(Status, &str); 8] = [
+    (Status::Done, "done"),
+    (Status::Usage, "usage"),
+    (Status::NotImage(20), "not an image (rule 20)"),
+    (Status::DeviceFault, "device fault"),
+    (Status::ReadFault, "read fault"),
+    (Status::WriteFault, "write fault"),
+    (Status::NoMemory, "no memory"),
+    (Status::TooLong, "too long"),
+];
+
+#[test]
+fn statuses_have_texts(rt: HostRuntime) -> Result<(), Fail> {
+    check_texts(&rt, rt.alloc(), &STATUSES)
+}
+
+const MOUNTS: [(Why, &str); 3] = [
+    (Why::Damage(8), "not an image (rule 8)"),
+    (Why::Fault, "the device failed"),
+    (Why::Memory, "no memory"),
+];
+
+const CHECKS: [(CheckFault, &str); 2] = [
+    (CheckFault::Damage(0), "not an image (rule 0)"),
+    (CheckFault::Memory, "no memory"),
+];
+
+const CALLS: [(FsError, &str); 3] = [
+    (FsError::Dead, "the device failed in an earlier call"),
+    (FsError::Refused(Refusal::NotFound), "refused"),
+    (FsError::Fault, "the device failed"),
+];
+
+const PATHS: [(PathFault, &str); 3] = [
+    (PathFault::BadPath, "no path"),
+    (PathFault::NotFound, "not found"),
+    (PathFault::NotDir, "not a directory"),
+];
+
+const DUMPS: [(DumpFault, &str); 2] = [
+    (DumpFault::Write, "write fault"),
+    (DumpFault::TooLong, "path too long"),
+];
+
+#[test]
+fn errors_have_texts(rt: HostRuntime) -> Result<(), Fail> {
+    let alloc = rt.alloc();
+    check_texts(&rt, alloc, &MOUNTS)?;
+    check_texts(&rt, alloc, &CHECKS)?;
+    check_texts(&rt, alloc, &CALLS)?;
+    check_texts(&rt, alloc, &PATHS)?;
+    check_texts(&rt, alloc, &DUMPS)?;
+    check_texts(&rt, alloc, &[(NoMemory, "no memory")])?;
+    check_texts(&rt, alloc, &[(PmFault, "the device failed")])?;
+    check_texts(&rt, alloc, &[(ReadFault, "read fault")])?;
+    check_texts(&rt, alloc, &[(WriteFault, "write fault")])
 }

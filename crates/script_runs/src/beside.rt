@@ -1,12 +1,15 @@
 // Calls over a file system and beside it over a plain tree: the same answers, and the same bytes.
-use ct_base::NoMemory;
+use ct_base::{NameBuf, NoMemory};
 use ct_fs::{Fs, FsError, Stat};
 use ct_plain::PlainTree;
 use ct_pm::Pm;
-use ct_tree::{Call, Reply};
+use ct_tree::{Call, NameList, Reply};
 
 // The most bytes that a call reads here.
-const READ: usize = 4096;
+const READ: u64 = 4096;
+
+// More entries than any directory has here.
+const ENTRIES: u64 = 1024;
 
 /// Makes a call that changes the tree; `None` for each other.
 pub fn change<D: Pm>(fs: &mut Fs<D>, call: &Call<'_>) -> Option<Result<(), FsError>> {
@@ -56,19 +59,65 @@ fn is_told<D: Pm>(fs: &Fs<D>, path: &[u8], reply: &Reply) -> bool {
 }
 
 // Whether a file system reads what the reply has.
-fn is_read<D: Pm>(fs: &Fs<D>, path: &[u8], off: u64, reply: &Reply) -> bool {
-    let mut bytes = [0u8; READ];
-    match (fs.read(path, off, READ as u64, &mut bytes), reply) {
+fn is_read<D: Pm>(fs: &Fs<D>, path: &[u8], off: u64, len: u64, reply: &Reply) -> bool {
+    let mut bytes = [0u8; READ as usize];
+    if len > READ {
+        return false;
+    }
+    match (fs.read(path, off, len, &mut bytes), reply) {
         (Ok(count), Reply::Data(data)) => {
-            count <= READ as u64 && data.as_slice() == &bytes[..count as usize]
+            count <= READ && data.as_slice() == &bytes[..count as usize]
         }
         (Err(FsError::Refused(refusal)), Reply::Refused(other)) => refusal == *other,
         _ => false,
     }
 }
 
-/// Whether a call over both is answered alike. Both make it where it changes the tree; a look is a `stat`, or a read of 4,096
-/// bytes.
+// Whether a file system has these names in a directory, one after another, and no more.
+fn has_names<D: Pm>(fs: &Fs<D>, path: &[u8], names: &NameList) -> bool {
+    let mut last: Option<NameBuf> = None;
+    for i in 0..ENTRIES {
+        let Ok(next) = fs.next_entry(path, text_of(&last)) else {
+            return false;
+        };
+        if text_of(&next) != names.get(i) {
+            return false;
+        }
+        if next.is_none() {
+            return true;
+        }
+        last = next;
+    }
+    false
+}
+
+fn text_of(name: &Option<NameBuf>) -> Option<&[u8]> {
+    match name {
+        Some(name) => Some(name.as_slice()),
+        None => None,
+    }
+}
+
+// Whether a file system lists what the reply does.
+fn is_listed<D: Pm>(fs: &Fs<D>, path: &[u8], reply: &Reply) -> bool {
+    match (fs.next_entry(path, None), reply) {
+        (Ok(_), Reply::Names(names)) => has_names(fs, path, names),
+        (Err(FsError::Refused(refusal)), Reply::Refused(other)) => refusal == *other,
+        _ => false,
+    }
+}
+
+// Whether both have a file at a path, or are refused alike: a plain tree has no places.
+fn is_located<D: Pm>(fs: &Fs<D>, path: &[u8], reply: &Reply) -> bool {
+    match (fs.locate(path), reply) {
+        (Ok(_), Reply::At { base: _, level: _ }) => true,
+        (Err(FsError::Refused(refusal)), Reply::Refused(other)) => refusal == *other,
+        _ => false,
+    }
+}
+
+/// Whether a call over both is answered alike. Both make it where it changes the tree. A read is of 4,096 bytes at most, and of
+/// a place no more is asked than whether there is one.
 ///
 /// # Errors
 ///
@@ -81,7 +130,9 @@ pub fn is_alike<D: Pm>(
     let reply = tree.call(call)?;
     Ok(match *call {
         Call::Stat { path } => is_told(fs, path, &reply),
-        Call::Read { path, off, len: _ } => is_read(fs, path, off, &reply),
+        Call::Read { path, off, len } => is_read(fs, path, off, len, &reply),
+        Call::List { path } => is_listed(fs, path, &reply),
+        Call::Where { path } => is_located(fs, path, &reply),
         _ => change(fs, call).is_some_and(|done| is_reply(done, &reply)),
     })
 }

@@ -1,10 +1,12 @@
-//! Runs of the shell as tests make them, with the words as one line, and input and output in memory; and calls over a file
-//! system and beside it over a plain tree.
+//! Runs of the shell as tests make them, with the words as one line, and input and output in memory; calls over a file system
+//! and beside it over a plain tree; and calls of all verbs that a number gives.
 //!
 //! There is no model of its own, and no test, so that it is proved once.
 #![tactic(auto)]
 
 mod beside;
+mod draws;
+mod trees;
 
 ghost use Rattle.std.specs.Prelude.{◌≤◌};
 ghost use Rattle.ct_pm.specs.Device.{NothingPending};
@@ -13,7 +15,9 @@ pub use beside::{change, is_alike};
 use ct_base::{MOST_PAGES, MemSink, MemSource, NoMemory};
 use ct_pm::{Pm, RamPm};
 use ct_run::{Status, run};
+pub use draws::drawn;
 use std::alloc::{AllocError, Global};
+pub use trees::is_same_tree;
 
 /// How many bytes a read gives at most, where the test does not say.
 const PIECE: usize = 1000;

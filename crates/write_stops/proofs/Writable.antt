@@ -5,9 +5,8 @@ use Rattle.ct_base.specs.Inode.{inode, part, part_bytes}
 use Rattle.ct_base.specs.Plan.{write_wants}
 use Rattle.ct_base.specs.View.{view}
 use Rattle.ct_base.specs.Wants.{Want, missing}
-use Rattle.ct_call.proofs.Rooms.{ready_here}
-use Rattle.ct_call.proofs.Resting.{mounted_rest}
-use Rattle.ct_call.specs.Mounted.{IsMounted}
+use Rattle.ct_call.proofs.Rooms.{ready_of}
+use Rattle.ct_commit.specs.Rest.{IsMounted}
 use Rattle.ct_frames.specs.Free.{FreePages}
 use Rattle.ct_grow.specs.Grown.{IsReady}
 use Rattle.ct_plan.specs.Few.{few_write_wants}
@@ -21,7 +20,7 @@ use Rattle.ct_write.proofs.Opening.{fits_slot}
 use Rattle.write_stops.specs.Held.{IsHeld}
 
 pub held : {w : List ℕ} {told : Option History} {frames : FreePages} → IsMounted w told frames → IsHeld w told frames
-held m = record { ready = ready_here (mounted_rest m); settled = m.settled; agrees = m.agrees }
+held m = record { ready = ready_of m; settled = m.settled; agrees = m.agrees }
 
 module _ {w : List ℕ} (r : IsReady w) {f : Inode} (is : f ≡ inode (view w) 2) (off len : ℕ) (kind : f.kind ≡ 1) (level : f.level ≤ 9) (some : 1 ≤ len) (fits : off + len ≤ part_bytes f.level) where
   pub may_write : CanWrite w 2 off len

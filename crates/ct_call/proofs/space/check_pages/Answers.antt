@@ -8,13 +8,13 @@ pub returns-then-free-need-clause-lacks : goal.returns-then-free-need-clause-lac
 returns-then-free-need-clause-lacks g c =
     let w = g.D.Pm.words c.args.dev.now in (
       c.free-free.result,
-      subst (HasFreePages w) (sym c.free-free.ensures.count) (has_free w c.requires.rest.unstaged c.requires.agrees c.free-free.ensures.rising c.free-free.ensures.in_range),
+      subst (HasFreePages w) (sym c.free-free.ensures.count) (has_free w c.requires.mounted.unstaged c.requires.mounted.agrees c.free-free.ensures.rising c.free-free.ensures.in_range),
       ap (λ n. NoPages c.free-free.result n) c.missing-need.ensures,
       subst (λ n. c.free-free.result < n) c.missing-need.ensures c.if-free-need.true,
     )
 
 pub returns-then-free-need-clause-counted : goal.returns-then-free-need-clause-counted
-returns-then-free-need-clause-counted g c = free_once (g.D.Pm.words c.args.dev.now) c.requires.rest.unstaged c.requires.agrees c.free-free.ensures.rising c.free-free.ensures.in_range
+returns-then-free-need-clause-counted g c = free_once (g.D.Pm.words c.args.dev.now) c.requires.mounted.unstaged c.requires.mounted.agrees c.free-free.ensures.rising c.free-free.ensures.in_range
 
 pub returns-clause-counted : goal.returns-clause-counted
-returns-clause-counted g c = free_once (g.D.Pm.words c.args.dev.now) c.requires.rest.unstaged c.requires.agrees c.free-free.ensures.rising c.free-free.ensures.in_range
+returns-clause-counted g c = free_once (g.D.Pm.words c.args.dev.now) c.requires.mounted.unstaged c.requires.mounted.agrees c.free-free.ensures.rising c.free-free.ensures.in_range

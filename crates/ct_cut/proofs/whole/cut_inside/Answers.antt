@@ -6,7 +6,7 @@ use Rattle.ct_cut.specs.Cut.{IsShorter}
 use Rattle.ct_cut.proofs.Shortening.{as_write, cut_missing, cut_numbers, end_called, rest_is, shorter, shorter_file, shorter_phase, zero_bytes, zero_size}
 use Rattle.ct_write.proofs.Opening.{can_record, first_from, first_to, opened, rest_of, second_to}
 use Rattle.ct_write.proofs.Reaching.{recorded_agrees}
-use Rattle.ct_write.proofs.Telling.{done_ready, done_sound, done_written, end_told, record_told}
+use Rattle.ct_write.proofs.Telling.{done_ready, done_sound, done_written, end_told, record_told, told_spares}
 use Rattle.ct_write.proofs.Turning.{still_phase}
 use Rattle.ct_cut.proofs.whole.cut_inside.Goals as goal
 
@@ -61,19 +61,23 @@ returns-in-Err-clause-phase g c = still_phase (λ after. IsShorter (g.D.Pm.words
 pub write_now-requires-clause-can : goal.write_now-requires-clause-can
 write_now-requires-clause-can g c = can_record (opened (Same 0) (as_write c.requires.can (4096 * c.pow.result - c.args.len) (rest_is c.args.len c.get-file.ensures c.pow.ensures)) (zero_bytes c.requires.can (4096 * c.pow.result - c.args.len) (rest_is c.args.len c.get-file.ensures c.pow.ensures)) c.get-file.ensures c.page_of-a.ensures c.staged_page-b.ensures c.touched-n.ensures) c.in-Ok.ensures.prepared
 
+pub write_now-requires-clause-spares : goal.write_now-requires-clause-spares
+write_now-requires-clause-spares g c =
+    told_spares (opened (Same 0) (as_write c.requires.can (4096 * c.pow.result - c.args.len) (rest_is c.args.len c.get-file.ensures c.pow.ensures)) (zero_bytes c.requires.can (4096 * c.pow.result - c.args.len) (rest_is c.args.len c.get-file.ensures c.pow.ensures)) c.get-file.ensures c.page_of-a.ensures c.staged_page-b.ensures c.touched-n.ensures) c.in-Ok.ensures.prepared c.prepare_range.ensures.phase (zero_size c.requires.can (4096 * c.pow.result - c.args.len) (rest_is c.args.len c.get-file.ensures c.pow.ensures))
+
 pub returns-in-Err-write_now-clause-phase : goal.returns-in-Err-write_now-clause-phase
-returns-in-Err-write_now-clause-phase g c = shorter_phase c.requires.can (4096 * c.pow.result - c.args.len) (rest_is c.args.len c.get-file.ensures c.pow.ensures) (record_told (opened (Same 0) (as_write c.requires.can (4096 * c.pow.result - c.args.len) (rest_is c.args.len c.get-file.ensures c.pow.ensures)) (zero_bytes c.requires.can (4096 * c.pow.result - c.args.len) (rest_is c.args.len c.get-file.ensures c.pow.ensures)) c.get-file.ensures c.page_of-a.ensures c.staged_page-b.ensures c.touched-n.ensures) c.in-Ok.ensures.prepared c.prepare_range.ensures.phase (zero_size c.requires.can (4096 * c.pow.result - c.args.len) (rest_is c.args.len c.get-file.ensures c.pow.ensures)) c.in-Err-write_now.ensures.any_moment c.in-Err-write_now.ensures.reads c.in-Err-write_now.ensures.made)
+returns-in-Err-write_now-clause-phase g c = shorter_phase c.requires.can (4096 * c.pow.result - c.args.len) (rest_is c.args.len c.get-file.ensures c.pow.ensures) (record_told (opened (Same 0) (as_write c.requires.can (4096 * c.pow.result - c.args.len) (rest_is c.args.len c.get-file.ensures c.pow.ensures)) (zero_bytes c.requires.can (4096 * c.pow.result - c.args.len) (rest_is c.args.len c.get-file.ensures c.pow.ensures)) c.get-file.ensures c.page_of-a.ensures c.staged_page-b.ensures c.touched-n.ensures) c.in-Ok.ensures.prepared c.prepare_range.ensures.phase (zero_size c.requires.can (4096 * c.pow.result - c.args.len) (rest_is c.args.len c.get-file.ensures c.pow.ensures)) c.in-Err-write_now.ensures.phase)
 
 pub unstage-requires-clause-agrees : goal.unstage-requires-clause-agrees
 unstage-requires-clause-agrees g c = recorded_agrees c.in-Ok-write_now.ensures.recorded c.in-Ok.ensures.agrees
 
 pub returns-in-Err-unstage-clause-phase : goal.returns-in-Err-unstage-clause-phase
 returns-in-Err-unstage-clause-phase g c = shorter_phase c.requires.can (4096 * c.pow.result - c.args.len) (rest_is c.args.len c.get-file.ensures c.pow.ensures) (end_told (opened (Same 0) (as_write c.requires.can (4096 * c.pow.result - c.args.len) (rest_is c.args.len c.get-file.ensures c.pow.ensures)) (zero_bytes c.requires.can (4096 * c.pow.result - c.args.len) (rest_is c.args.len c.get-file.ensures c.pow.ensures)) c.get-file.ensures c.page_of-a.ensures c.staged_page-b.ensures c.touched-n.ensures) c.in-Ok.ensures.prepared c.prepare_range.ensures.phase (zero_size c.requires.can (4096 * c.pow.result - c.args.len) (rest_is c.args.len c.get-file.ensures c.pow.ensures)) c.in-Ok-write_now.ensures.recorded c.in-Ok-write_now.ensures.shut
-    (record_told (opened (Same 0) (as_write c.requires.can (4096 * c.pow.result - c.args.len) (rest_is c.args.len c.get-file.ensures c.pow.ensures)) (zero_bytes c.requires.can (4096 * c.pow.result - c.args.len) (rest_is c.args.len c.get-file.ensures c.pow.ensures)) c.get-file.ensures c.page_of-a.ensures c.staged_page-b.ensures c.touched-n.ensures) c.in-Ok.ensures.prepared c.prepare_range.ensures.phase (zero_size c.requires.can (4096 * c.pow.result - c.args.len) (rest_is c.args.len c.get-file.ensures c.pow.ensures)) c.in-Ok-write_now.ensures.any_moment c.in-Ok-write_now.ensures.reads c.in-Ok-write_now.ensures.made) (c.unstage.ensures.images c.in-Ok-write_now.ensures.settled) c.unstage.ensures.either c.unstage.ensures.made)
+    (record_told (opened (Same 0) (as_write c.requires.can (4096 * c.pow.result - c.args.len) (rest_is c.args.len c.get-file.ensures c.pow.ensures)) (zero_bytes c.requires.can (4096 * c.pow.result - c.args.len) (rest_is c.args.len c.get-file.ensures c.pow.ensures)) c.get-file.ensures c.page_of-a.ensures c.staged_page-b.ensures c.touched-n.ensures) c.in-Ok.ensures.prepared c.prepare_range.ensures.phase (zero_size c.requires.can (4096 * c.pow.result - c.args.len) (rest_is c.args.len c.get-file.ensures c.pow.ensures)) c.in-Ok-write_now.ensures.phase) (c.unstage.ensures.images c.in-Ok-write_now.ensures.settled) c.unstage.ensures.either c.unstage.ensures.made)
 
 pub returns-in-Ok-unstage-clause-phase : goal.returns-in-Ok-unstage-clause-phase
 returns-in-Ok-unstage-clause-phase g c = shorter_phase c.requires.can (4096 * c.pow.result - c.args.len) (rest_is c.args.len c.get-file.ensures c.pow.ensures) (end_told (opened (Same 0) (as_write c.requires.can (4096 * c.pow.result - c.args.len) (rest_is c.args.len c.get-file.ensures c.pow.ensures)) (zero_bytes c.requires.can (4096 * c.pow.result - c.args.len) (rest_is c.args.len c.get-file.ensures c.pow.ensures)) c.get-file.ensures c.page_of-a.ensures c.staged_page-b.ensures c.touched-n.ensures) c.in-Ok.ensures.prepared c.prepare_range.ensures.phase (zero_size c.requires.can (4096 * c.pow.result - c.args.len) (rest_is c.args.len c.get-file.ensures c.pow.ensures)) c.in-Ok-write_now.ensures.recorded c.in-Ok-write_now.ensures.shut
-    (record_told (opened (Same 0) (as_write c.requires.can (4096 * c.pow.result - c.args.len) (rest_is c.args.len c.get-file.ensures c.pow.ensures)) (zero_bytes c.requires.can (4096 * c.pow.result - c.args.len) (rest_is c.args.len c.get-file.ensures c.pow.ensures)) c.get-file.ensures c.page_of-a.ensures c.staged_page-b.ensures c.touched-n.ensures) c.in-Ok.ensures.prepared c.prepare_range.ensures.phase (zero_size c.requires.can (4096 * c.pow.result - c.args.len) (rest_is c.args.len c.get-file.ensures c.pow.ensures)) c.in-Ok-write_now.ensures.any_moment c.in-Ok-write_now.ensures.reads c.in-Ok-write_now.ensures.made) (c.unstage.ensures.images c.in-Ok-write_now.ensures.settled) c.unstage.ensures.either c.unstage.ensures.made)
+    (record_told (opened (Same 0) (as_write c.requires.can (4096 * c.pow.result - c.args.len) (rest_is c.args.len c.get-file.ensures c.pow.ensures)) (zero_bytes c.requires.can (4096 * c.pow.result - c.args.len) (rest_is c.args.len c.get-file.ensures c.pow.ensures)) c.get-file.ensures c.page_of-a.ensures c.staged_page-b.ensures c.touched-n.ensures) c.in-Ok.ensures.prepared c.prepare_range.ensures.phase (zero_size c.requires.can (4096 * c.pow.result - c.args.len) (rest_is c.args.len c.get-file.ensures c.pow.ensures)) c.in-Ok-write_now.ensures.phase) (c.unstage.ensures.images c.in-Ok-write_now.ensures.settled) c.unstage.ensures.either c.unstage.ensures.made)
 
 pub returns-in-Ok-unstage-clause-shorter : goal.returns-in-Ok-unstage-clause-shorter
 returns-in-Ok-unstage-clause-shorter g c = shorter c.requires.can (4096 * c.pow.result - c.args.len) (rest_is c.args.len c.get-file.ensures c.pow.ensures) (done_written (opened (Same 0) (as_write c.requires.can (4096 * c.pow.result - c.args.len) (rest_is c.args.len c.get-file.ensures c.pow.ensures)) (zero_bytes c.requires.can (4096 * c.pow.result - c.args.len) (rest_is c.args.len c.get-file.ensures c.pow.ensures)) c.get-file.ensures c.page_of-a.ensures c.staged_page-b.ensures c.touched-n.ensures) c.in-Ok.ensures.prepared c.prepare_range.ensures.phase (zero_size c.requires.can (4096 * c.pow.result - c.args.len) (rest_is c.args.len c.get-file.ensures c.pow.ensures)) c.in-Ok-write_now.ensures.recorded c.in-Ok-write_now.ensures.shut c.in-Ok-unstage.ensures.words)

@@ -1,5 +1,5 @@
 use Rattle.ct_cut.specs.Cut.{IsEmptied}
-use Rattle.ct_cut.proofs.Emptied.{done_file, empty_end, empty_there, empty_told, emptied_agrees, last_done, last_ready, last_sound}
+use Rattle.ct_cut.proofs.Emptied.{done_file, empty_end, empty_spares, empty_there, empty_told, emptied_agrees, last_done, last_ready, last_sound}
 use Rattle.ct_cut.proofs.Shortening.{cut_room}
 use Rattle.ct_write.proofs.Turning.{still_phase}
 use Rattle.ct_cut.proofs.whole.cut_whole.Goals as goal
@@ -13,8 +13,11 @@ returns-in-Err-clause-phase g c = still_phase (λ after. IsEmptied (g.D.Pm.words
 pub empty_now-requires-clause-there : goal.empty_now-requires-clause-there
 empty_now-requires-clause-there g c = empty_there c.requires.can c.in-Ok.ensures.readied c.prepare_whole.ensures.phase
 
+pub empty_now-requires-clause-spares : goal.empty_now-requires-clause-spares
+empty_now-requires-clause-spares g c = empty_spares c.requires.can c.in-Ok.ensures.readied c.prepare_whole.ensures.phase
+
 pub returns-in-Err-empty_now-clause-phase : goal.returns-in-Err-empty_now-clause-phase
-returns-in-Err-empty_now-clause-phase g c = empty_told c.requires.can c.in-Ok.ensures.readied c.prepare_whole.ensures.phase c.in-Err-empty_now.ensures.any_moment c.in-Err-empty_now.ensures.reads c.in-Err-empty_now.ensures.made
+returns-in-Err-empty_now-clause-phase g c = empty_told c.requires.can c.in-Ok.ensures.readied c.prepare_whole.ensures.phase c.in-Err-empty_now.ensures.phase
 
 pub unstage-requires-clause-agrees : goal.unstage-requires-clause-agrees
 unstage-requires-clause-agrees g c = emptied_agrees c.in-Ok-empty_now.ensures.emptied c.in-Ok.ensures.agrees
@@ -32,7 +35,7 @@ pub returns-in-Ok-unstage-clause-ready : goal.returns-in-Ok-unstage-clause-ready
 returns-in-Ok-unstage-clause-ready g c = last_ready c.requires.can c.in-Ok.ensures.readied c.prepare_whole.ensures.phase c.in-Ok-empty_now.ensures.emptied c.in-Ok-empty_now.ensures.shut c.in-Ok-unstage.ensures.words
 
 pub returns-in-Ok-unstage-clause-phase : goal.returns-in-Ok-unstage-clause-phase
-returns-in-Ok-unstage-clause-phase g c = empty_end c.requires.can c.in-Ok.ensures.readied c.prepare_whole.ensures.phase c.in-Ok-empty_now.ensures.emptied c.in-Ok-empty_now.ensures.shut (empty_told c.requires.can c.in-Ok.ensures.readied c.prepare_whole.ensures.phase c.in-Ok-empty_now.ensures.any_moment c.in-Ok-empty_now.ensures.reads c.in-Ok-empty_now.ensures.made) (c.unstage.ensures.images c.in-Ok-empty_now.ensures.settled) c.unstage.ensures.either c.unstage.ensures.made
+returns-in-Ok-unstage-clause-phase g c = empty_end c.requires.can c.in-Ok.ensures.readied c.prepare_whole.ensures.phase c.in-Ok-empty_now.ensures.emptied c.in-Ok-empty_now.ensures.shut (empty_told c.requires.can c.in-Ok.ensures.readied c.prepare_whole.ensures.phase c.in-Ok-empty_now.ensures.phase) (c.unstage.ensures.images c.in-Ok-empty_now.ensures.settled) c.unstage.ensures.either c.unstage.ensures.made
 
 pub returns-in-Err-unstage-clause-phase : goal.returns-in-Err-unstage-clause-phase
-returns-in-Err-unstage-clause-phase g c = empty_end c.requires.can c.in-Ok.ensures.readied c.prepare_whole.ensures.phase c.in-Ok-empty_now.ensures.emptied c.in-Ok-empty_now.ensures.shut (empty_told c.requires.can c.in-Ok.ensures.readied c.prepare_whole.ensures.phase c.in-Ok-empty_now.ensures.any_moment c.in-Ok-empty_now.ensures.reads c.in-Ok-empty_now.ensures.made) (c.unstage.ensures.images c.in-Ok-empty_now.ensures.settled) c.unstage.ensures.either c.unstage.ensures.made
+returns-in-Err-unstage-clause-phase g c = empty_end c.requires.can c.in-Ok.ensures.readied c.prepare_whole.ensures.phase c.in-Ok-empty_now.ensures.emptied c.in-Ok-empty_now.ensures.shut (empty_told c.requires.can c.in-Ok.ensures.readied c.prepare_whole.ensures.phase c.in-Ok-empty_now.ensures.phase) (c.unstage.ensures.images c.in-Ok-empty_now.ensures.settled) c.unstage.ensures.either c.unstage.ensures.made

@@ -1,13 +1,11 @@
-use Rattle.std.proofs.Common.{◌∙◌, ap, inl, subst, arith}
+use Rattle.std.proofs.Common.{◌∙◌, ap, inl, arith}
 use Rattle.ct_base.specs.declared.inode.Inode.{Inode}
 use Rattle.ct_base.specs.Inode.{inode}
 use Rattle.ct_base.specs.View.{view}
-use Rattle.ct_pm.specs.Phase.{Crash}
-use Rattle.ct_pm.proofs.Phases.{phase_here}
-use Rattle.ct_record.proofs.Moments.{each_settled}
 use Rattle.ct_tree.specs.Content.{resized}
 use Rattle.ct_tree.specs.Lands.{files}
-use Rattle.ct_call.proofs.Landed.{rest_as, shut_crash}
+use Rattle.ct_commit.proofs.Landed.{rest_as}
+use Rattle.ct_call.proofs.Resting.{idle_phase}
 use Rattle.ct_edit.specs.Changed.{ChangesOrNot}
 use Rattle.ct_edit.proofs.Resized.{grows_never, same_changes}
 use Rattle.ct_edit.proofs.truncate.resize_file.Goals as goal
@@ -21,7 +19,4 @@ returns-then-len-size-clause-moved g c level goes =
 
 pub returns-then-len-size-clause-phase : goal.returns-then-len-size-clause-phase
 returns-then-len-size-clause-phase g c =
-    let dev = c.args.dev in
-    let Q = ChangesOrNot (files (g.D.Pm.words dev)) c.args.file (resized c.args.len) in
-    let here : Crash Q 5111 (g.D.Pm.words dev) = shut_crash (g.D.Pm.words dev) c.requires.rest.shut (inl (rest_as c.requires.rest)) in
-    phase_here (g.D.Pm.told dev) Q (each_settled (g.D.Pm.told dev) (g.D.Pm.words dev) (Crash Q 5111) (g.met.D.Pm.replays dev) c.requires.settled here) here
+    idle_phase (ChangesOrNot (files (g.D.Pm.words c.args.dev)) c.args.file (resized c.args.len)) c.requires.mounted (g.met.D.Pm.replays c.args.dev) (inl (rest_as c.requires.mounted.rest))

@@ -1,75 +1,34 @@
-use Rattle.std.proofs.Common.{◌⊎◌, ℕ, List, Ok, Err, inl, refl, subst, arith}
-use Rattle.ct_pm.specs.Phase.{Crash}
-use Rattle.ct_pm.proofs.Phases.{phase_here}
-use Rattle.ct_record.proofs.Moments.{each_settled}
-use Rattle.ct_tree.specs.Lands.{Lands}
-use Rattle.ct_call.proofs.Landed.{shut_crash}
-use Rattle.ct_call.proofs.Resting.{does_over, mounted_rest, rest_lands}
-use Rattle.ct_call.proofs.Spaces.{is_told, not_refused}
-use Rattle.ct_call.proofs.Vacant.{free_once}
-use Rattle.ct_call.specs.Calls.{after, most_pairs}
+use Rattle.std.proofs.Common.{Some}
+use Rattle.ct_record.specs.Seen.{device_behind}
 use Rattle.ct_call.specs.Placed.{Places}
-use Rattle.ct_call.specs.declared.mount.FsError.TheVariants.{Refused}
+use Rattle.ct_call.proofs.Carried.{left_has, ok_three}
+use Rattle.ct_call.proofs.Resting.{does_over}
 use Rattle.ct_edit.specs.Edits.{edit_op}
-use Rattle.ct_edit.proofs.Preparing.{bytes_made, places, spends}
+use Rattle.ct_edit.proofs.Preparing.{bytes_made, changes, places}
+use Rattle.ct_edit.proofs.Rewritten.{changed_pages}
 use Rattle.ct_edit.proofs.Told.{stands_after, tree_phase}
 use Rattle.ct_edit.proofs.whole.edit_in.Goals as goal
 
 pub returns-in-Err-clause-does : goal.returns-in-Err-clause-does
-returns-in-Err-clause-does g c t = does_over t (edit_op c.args.path.now c.args.edit) c.mounted.view_is (λ st.
-    let dev = c.mounted.inside.dev in
-    let op = edit_op c.args.path.now c.args.edit in
-    let rest = mounted_rest c.mounted.invariant in
-    let Q : List ℕ → Type 0 = λ image. Lands image t ⊎ Lands image (after t op) in
-    let here : Crash Q (most_pairs op) (g.D.Pm.words dev) = shut_crash (g.D.Pm.words dev) rest.shut (inl (rest_lands rest st)) in
-    record {
-      answer = c.in-Err.ensures.answer t st;
-      told = is_told rest st op (spends c.args.path.now c.args.edit) {T = ℕ} (Err (Refused c.in-Err.refusal)) (c.in-Err.ensures.answer t st);
-      succeeds = λ can quiet. absurd (not_refused can c.in-Err.refusal (c.in-Err.ensures.answer t st));
-      leaves = refl;
-      later = omega arith;
-      phase = phase_here (g.D.Pm.told dev) Q (each_settled (g.D.Pm.told dev) (g.D.Pm.words dev) (Crash Q (most_pairs op)) (g.met.D.Pm.replays dev) c.mounted.invariant.settled here) here;
-    })
+returns-in-Err-clause-does g c t = let op = edit_op c.args.path.now c.args.edit in
+    does_over t op c.mounted.view_is (λ st. c.refused.ensures.does t op (changes c.args.path.now c.args.edit) st (c.in-Err.ensures.answer t st))
 
-pub returns-in-Ok-carry_out-clause-does : goal.returns-in-Ok-carry_out-clause-does
-returns-in-Ok-carry_out-clause-does g c t = does_over t (edit_op c.args.path.now c.args.edit) c.mounted.view_is (λ st.
-    let path = c.args.path.now in
-    let op = edit_op path c.args.edit in
+pub ended-requires-clause-pages : goal.ended-requires-clause-pages
+ended-requires-clause-pages g c = changed_pages (g.D.Pm.words (device_behind c.carry_out-carried.result)) c.carry_out-carried.ensures.phase.reads.has
+
+pub returns-clause-does : goal.returns-clause-does
+returns-clause-does g c t = let op = edit_op c.args.path.now c.args.edit in does_over t op c.mounted.view_is (λ st.
+    let r = c.carry_out-carried.result in
+    let e = c.carry_out-carried.ensures in
     let can = c.in-Ok.ensures.answer t st in
-    let rest = mounted_rest c.mounted.invariant in
-    let made = bytes_made c.in-Ok.ensures.file c.args.edit c.in-Ok.ensures.task in
-    record {
-      answer = can;
-      told = is_told rest st op (spends path c.args.edit) {T = ℕ} (Ok 0) can;
-      succeeds = λ can quiet. refl;
-      leaves = record {
-        rest = c.in-Ok-carry_out.ensures.rest;
-        stands = stands_after rest c.in-Ok.ensures.file made st can.allowed c.in-Ok-carry_out.ensures.rest c.in-Ok-carry_out.ensures.counted c.in-Ok-carry_out.ensures.changes;
-        lasts = c.in-Ok-carry_out.ensures.settled;
-        counted = c.in-Ok-carry_out.ensures.counted;
-      };
-      later = c.in-Ok-carry_out.ensures.cause.later;
-      phase = tree_phase rest c.in-Ok.ensures.file made st can.allowed c.in-Ok-carry_out.ensures.phase;
-    })
+    let rest = c.mounted.invariant.rest in
+    let file = c.in-Ok.ensures.file in
+    let made = bytes_made file c.args.edit c.in-Ok.ensures.task in
+    c.ended.ensures.does _ t op (record { change = changes c.args.path.now c.args.edit; rest = rest; stands = st; can = can })
+    (ok_three r (λ mounted counted done. record { stands = stands_after rest file made st can.allowed mounted.rest counted done; counted = counted }) e.mounted e.counted e.changes)
+    (tree_phase rest file made st can.allowed e.phase) e.cause)
 
-pub returns-in-Err-carry_out-clause-does : goal.returns-in-Err-carry_out-clause-does
-returns-in-Err-carry_out-clause-does g c t = does_over t (edit_op c.args.path.now c.args.edit) c.mounted.view_is (λ st.
-    let can = c.in-Ok.ensures.answer t st in
-    let rest = mounted_rest c.mounted.invariant in
-    let made = bytes_made c.in-Ok.ensures.file c.args.edit c.in-Ok.ensures.task in
-    record {
-      answer = can;
-      told = tt;
-      succeeds = λ can quiet. absurd (quiet c.in-Err-carry_out.ensures.cause.failed);
-      later = c.in-Err-carry_out.ensures.cause.later;
-      leaves = (refl, c.in-Err-carry_out.ensures.cause.failed);
-      phase = tree_phase rest c.in-Ok.ensures.file made st can.allowed c.in-Err-carry_out.ensures.phase;
-    })
-
-pub returns-in-Ok-carry_out-clause-places : goal.returns-in-Ok-carry_out-clause-places
-returns-in-Ok-carry_out-clause-places g c =
-    let new = g.D.Pm.words c.in-Ok-carry_out.dev in
-    let rest = mounted_rest c.mounted.invariant in
-    let counted = free_once new c.in-Ok-carry_out.ensures.rest.unstaged c.in-Ok-carry_out.ensures.agrees c.free.ensures.rising c.free.ensures.in_range in
-    subst (λ m. Places (g.D.Pm.words m.dev) new (edit_op c.args.path.now c.args.edit)) c.mounted.view_is
-    (places c.in-Ok.ensures.file c.args.edit c.in-Ok.ensures.task rest c.in-Ok.ensures.plan c.in-Ok.ensures.fits new c.carry_out.new.frames c.in-Ok-carry_out.ensures.moved c.in-Ok.ensures.counted counted c.in-Ok-carry_out.ensures.taken)
+pub returns-clause-places : goal.returns-clause-places
+returns-clause-places g c = let r = c.carry_out-carried.result in let e = c.carry_out-carried.ensures in let f = c.in-Ok.ensures in
+    left_has (λ old new. Places (g.D.Pm.words old) (g.D.Pm.words new) (edit_op c.args.path.now c.args.edit)) (Some c.ended.result.0) c.carry_out-carried.result c.carry_out-carried.new.frames c.ended.result.1 c.mounted.view_is c.ended.ensures.done c.ended.ensures.left
+    (ok_three r (λ moved taken free. places f.file c.args.edit f.task c.mounted.invariant.rest f.plan f.fits (g.D.Pm.words (device_behind r)) c.carry_out-carried.new.frames moved f.counted free taken) e.moved e.taken c.ended.ensures.free)

@@ -16,12 +16,12 @@ returns-in-None-clause-answer g c kind t st =
     inr (make_refuses kind t path ∙ c.in-Ok.ensures.answer t st, (makes_node kind path, no_number (view w) (inode_count w) c.load.result c.load.ensures c.in-None.ensures))
 
 pub entry_plan-plan-requires-clause-can : goal.entry_plan-plan-requires-clause-can
-entry_plan-plan-requires-clause-can g c = can_plan c.requires.rest c.in-Ok.ensures.spot.next
+entry_plan-plan-requires-clause-can g c = can_plan c.requires.mounted.rest c.in-Ok.ensures.spot.next
 
 pub entry_plan-plan-requires-clause-number : goal.entry_plan-plan-requires-clause-number
 entry_plan-plan-requires-clause-number g c =
     let w = g.D.Pm.words c.args.dev.now in
-    number_few c.requires.rest (first_number (view w) (inode_count w) c.load.result c.in-Some.number c.load.ensures c.in-Some.ensures)
+    number_few c.requires.mounted.rest (first_number (view w) (inode_count w) c.load.result c.in-Some.number c.load.ensures c.in-Some.ensures)
 
 pub returns-in-Ok-check_space-clause-first : goal.returns-in-Ok-check_space-clause-first
 returns-in-Ok-check_space-clause-first g c =
@@ -37,8 +37,8 @@ returns-in-Ok-check_space-clause-answer g c kind t st =
     let next = c.in-Ok.ensures.spot.next in
     let first = first_number (view w) (inode_count w) c.load.result number c.load.ensures c.in-Some.ensures in
     let some = has_inode w kind path first in
-    let space = c.in-Ok-check_space.ensures.answer (make_op kind path) (plan_for w spot.inode spot.offset number) (only_plan c.requires.rest next first path c.in-Ok.ensures.spot.parent kind)
-    (plans (can_plan c.requires.rest next) number c.entry_plan-plan.ensures) some in
+    let space = c.in-Ok-check_space.ensures.answer (make_op kind path) (plan_for w spot.inode spot.offset number) (only_plan c.requires.mounted.rest next first path c.in-Ok.ensures.spot.parent kind)
+    (plans (can_plan c.requires.mounted.rest next) number c.entry_plan-plan.ensures) some in
     record { allowed = make_refuses kind t path ∙ c.in-Ok.ensures.answer t st; inode = some; partition = space.0; pages = space.1 }
 
 pub returns-in-Err-check_space-clause-answer : goal.returns-in-Err-check_space-clause-answer
@@ -51,6 +51,6 @@ returns-in-Err-check_space-clause-answer g c kind t st =
     let first = first_number (view w) (inode_count w) c.load.result number c.load.ensures c.in-Some.ensures in
     inr (
       make_refuses kind t path ∙ c.in-Ok.ensures.answer t st,
-      c.in-Err-check_space.ensures.answer (make_op kind path) (plan_for w spot.inode spot.offset number) (only_plan c.requires.rest next first path c.in-Ok.ensures.spot.parent kind)
-          (plans (can_plan c.requires.rest next) number c.entry_plan-plan.ensures) (has_inode w kind path first),
+      c.in-Err-check_space.ensures.answer (make_op kind path) (plan_for w spot.inode spot.offset number) (only_plan c.requires.mounted.rest next first path c.in-Ok.ensures.spot.parent kind)
+          (plans (can_plan c.requires.mounted.rest next) number c.entry_plan-plan.ensures) (has_inode w kind path first),
     )

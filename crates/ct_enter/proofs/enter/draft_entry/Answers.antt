@@ -12,7 +12,8 @@ use Rattle.ct_record.specs.Seen.{Drafts, drafted, pairs_of, words_under}
 use Rattle.ct_record.proofs.Chain.{drafts_then}
 use Rattle.ct_record.proofs.Under.{under_beside}
 use Rattle.ct_words.specs.Drafted.{MapsAlike}
-use Rattle.ct_enter.specs.Entry.{IsEntryWord, empty_inode}
+use Rattle.ct_call.specs.Placed.{empty_inode}
+use Rattle.ct_enter.specs.Entry.{IsEntryWord}
 use Rattle.ct_enter.proofs.Entering.{spot_ends, spot_few, spot_room, spot_there}
 use Rattle.ct_enter.proofs.enter.draft_entry.Given.{Over}
 use Rattle.ct_enter.proofs.enter.draft_entry.Goals as goal

@@ -7,7 +7,7 @@ use Rattle.ct_base.specs.View.{view, inode_count}
 use Rattle.ct_base.specs.Settled.{IsShut}
 use Rattle.ct_frames.specs.Agrees.{Agrees}
 use Rattle.ct_pm.specs.Device.{LeavesOnly}
-use Rattle.ct_record.specs.Record.{SettlesTo}
+use Rattle.ct_base.specs.State.{SameState}
 use Rattle.ct_record.specs.Seen.{device_behind}
 use Rattle.ct_record.proofs.Drafts.{ok_of}
 use Rattle.ct_record.proofs.Ended.{ok_both, ok_then}
@@ -17,7 +17,7 @@ use Rattle.ct_grow.proofs.Celled.{agrees_now, cells_moved}
 use Rattle.ct_grow.proofs.Moved.{Grew}
 use Rattle.ct_grow.proofs.Promoting.{promoted, ready_now}
 use Rattle.ct_grow.proofs.Readied.{Calls, may_move, grew, needed_at, stands_now, own_part}
-use Rattle.ct_grow.proofs.Telling.{asked_phase, moved_last, moved_phase}
+use Rattle.ct_grow.proofs.Telling.{asked_phase, moved_last, moved_phase, moving_spares}
 use Rattle.ct_grow.proofs.grow.promote.Given.{Over}
 use Rattle.ct_grow.proofs.grow.promote.Goals as goal
 
@@ -49,6 +49,20 @@ move_now-requires-clause-can g c =
       all = c.in-Ok.ensures.there;
     } in
     may_move calls
+
+pub move_now-requires-clause-spares : goal.move_now-requires-clause-spares
+move_now-requires-clause-spares g c =
+    let calls : Calls (g.D.Pm.words c.args.dev) (g.D.Pm.words c.ensure_all.new.dev) c.args.frames.now c.ensure_all.new.frames c.args.inode c.args.level c.get-old.result c.as_slice.result.now (record { base = c.first_base-base.result; level = c.args.level }) = record {
+      can = c.requires.can;
+      is_part = c.first_base-base.ensures.part;
+      at_level = refl;
+      first = c.first_base-base.ensures.first (live_parts (view (g.D.Pm.words c.args.dev)) (inode_count (g.D.Pm.words c.args.dev))) (stands_now c.requires.can.ready);
+      was = c.get-old.ensures;
+      asked = c.as_slice.ensures ∙ c.growth_wants-wants.ensures.wants;
+      grown = c.in-Ok.ensures.extends.grown;
+      all = c.in-Ok.ensures.there;
+    } in
+    moving_spares calls
 
 module _ (g : Over) (c : goal.After-move_now g) where
   calls : Calls (g.D.Pm.words c.args.dev) (g.D.Pm.words c.ensure_all.new.dev) c.args.frames.now c.ensure_all.new.frames c.args.inode c.args.level c.get-old.result c.as_slice.result.now (record { base = c.first_base-base.result; level = c.args.level })
@@ -103,7 +117,7 @@ returns-clause-phase g c =
     moved_phase (calls g c)
     (asked_phase (g.D.Pm.words c.args.dev) c.args.inode c.args.level c.get-old.result c.as_slice.result.now (record { base = c.first_base-base.result; level = c.args.level }) c.requires.can.ready c.first_base-base.ensures.part
     (c.first_base-base.ensures.first (live_parts (view (g.D.Pm.words c.args.dev)) (inode_count (g.D.Pm.words c.args.dev))) (stands_now c.requires.can.ready)) c.get-old.ensures (c.as_slice.ensures ∙ c.growth_wants-wants.ensures.wants) c.requires.agrees c.requires.settled c.ensure_all.ensures.extends)
-    c.move_now.ensures.any_moment c.move_now.ensures.reads c.move_now.ensures.made
+    c.move_now.ensures.phase
 
 -- the device failed while pages were made
 pub returns-in-Err-clause-phase : goal.returns-in-Err-clause-phase
@@ -113,6 +127,5 @@ returns-in-Err-clause-phase g c =
 
 pub returns-clause-reads_after : goal.returns-clause-reads_after
 returns-clause-reads_after g c =
-    let after = LeavesOnly (g.D.Pm.told c.ensure_all.new.dev) (g.D.Pm.told (device_behind c.move_now.result)) (λ image. SettlesTo (g.D.Pm.words c.ensure_all.new.dev) image ⊎ SettlesTo (w2 g c) image) in
-    ok_then (IsReady (w2 g c) × after) c.move_now.result (λ has. moved_last (calls g c) has.0 (c.ensure_all.ensures.extends.images c.requires.settled) c.move_now.ensures.any_moment has.1)
-    (ok_both (IsReady (w2 g c)) after c.move_now.result (is_ready g c) c.move_now.ensures.reads_after)
+    let after = LeavesOnly (g.D.Pm.told c.ensure_all.new.dev) (g.D.Pm.told (device_behind c.move_now.result)) (λ image. SameState (g.D.Pm.words c.ensure_all.new.dev) image ⊎ SameState (w2 g c) image) in
+    ok_then after c.move_now.result (λ last. moved_last (calls g c) (c.ensure_all.ensures.extends.images c.requires.settled) last) c.move_now.ensures.reads_after

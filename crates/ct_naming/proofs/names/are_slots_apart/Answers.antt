@@ -2,7 +2,6 @@ use Rattle.std.proofs.Common.{◌≢◌, refl, sym, ap, subst, ◌∙◌, arith}
 use Rattle.ct_base.specs.declared.inode.Inode.{Inode}
 use Rattle.ct_base.specs.Inode.{inode}
 use Rattle.ct_base.specs.View.{inode_count, view}
-use Rattle.ct_dir.proofs.Held.{dir-small}
 use Rattle.ct_dir.proofs.Readable.{readable}
 use Rattle.ct_dir.specs.Directory.{IsReadable}
 use Rattle.ct_naming.specs.Spelling.{AreSlotsApart}
@@ -20,13 +19,12 @@ returns-then-dir-ne-DIRECTORY_KIND g c =
 pub returns : goal.returns
 returns g c =
     let w = g.D.Pm.words c.args.dev.now in
+    let fits = g.met.D.Pm.words_fit c.args.dev.now in
     let dir = c.get-dir.result in
     let is = dir_is w c.requires.number c.get-dir.ensures in
     let kind = ap (λ (f : Inode). f.kind) c.get-dir.ensures in
-    let reads = readable w (inode_count w) c.args.n c.requires.tables c.requires.number (omega (arith, kind)) c.requires.placed c.requires.entries in
-    let texts = (subst (IsReadable w) (sym c.get-dir.ensures) reads).texts in
-    let small = dir-small w dir in
+    let reads = subst (IsReadable w) (sym c.get-dir.ensures) (readable w (inode_count w) c.args.n c.requires.tables c.requires.number (omega (arith, kind)) c.requires.placed c.requires.entries) in
     let list = c.in_ok-names.ensures in (
-      λ on. subst AreSlotsApart (sym is) (slots_apart small texts list.names list.sorted (c.are_neighbours_apart.ensures.0 on)),
-      λ apart. c.are_neighbours_apart.ensures.1 (neighbours_apart small texts list.names (subst AreSlotsApart is apart)),
+      λ on. subst AreSlotsApart (sym is) (slots_apart reads.tables fits reads.placed reads.texts list.names list.sorted (c.are_neighbours_apart.ensures.0 on)),
+      λ apart. c.are_neighbours_apart.ensures.1 (neighbours_apart reads.tables fits reads.placed reads.texts list.names (subst AreSlotsApart is apart)),
     )

@@ -1,12 +1,11 @@
 use Rattle.std.proofs.Common.{◌≡◌, ◌-◌, ◌%◌}
-use Rattle.ct_dir.specs.Directory.{dir_of}
 use Rattle.ct_naming.specs.Spelling.{Spells}
 use Rattle.ct_naming.proofs.names.names_of.Given as goal
 
 abbrev pub invariant-loop-slot : goal.invariant-loop-slot
 invariant-loop-slot g l = record {
   aligned : l.at % 256 ≡ 0;
-  names : Spells (dir_of (g.D.Pm.words l.dev) l.dir) l.at l.names.items;
+  names : Spells (g.D.Pm.words l.dev) l.dir l.at l.names.items;
 }
 
 abbrev pub decreases-loop-slot : goal.decreases-loop-slot

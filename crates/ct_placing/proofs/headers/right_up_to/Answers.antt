@@ -1,15 +1,13 @@
-use Rattle.std.proofs.Common.{◌≡◌, ℕ, ◌/◌, false, refl, subst, ◌∙◌, arith}
+use Rattle.std.proofs.Common.{◌≡◌, ℕ, false, refl, subst, ◌∙◌, arith}
 use Rattle.std.proofs.lemmas.Bool.{both_ways}
 use Rattle.ct_placing.specs.Heading.{IsHeader, parts_of, word_of}
 use Rattle.ct_placing.proofs.Addresses.{shown_here}
-use Rattle.ct_placing.proofs.Stretches.{shown_none}
 use Rattle.ct_placing.proofs.headers.right_up_to.Goals as goal
 
-pub returns-then-absent-gt0-clause-right : goal.returns-then-absent-gt0-clause-right
-returns-then-absent-gt0-clause-right g c = λ x from to even some.
+pub returns-in-Some-clause-right : goal.returns-in-Some-clause-right
+returns-in-Some-clause-right g c = λ x from to even some.
     let w = g.D.Pm.words c.args.dev.now in
-    let none = shown_none w x (c.absent_from-absent.ensures.absent (x / 4096) (omega arith) (omega arith)) in
-    absurd (some (shown_here w x even (omega (arith, c.absent_from-absent.ensures.most)) ∙ none))
+    absurd (some (shown_here w x even (omega (arith, c.in-Some.ensures.next)) ∙ c.in-Some.ensures.zero x from to even))
 
 pub returns-then-is_right_word-clause-right : goal.returns-then-is_right_word-clause-right
 returns-then-is_right_word-clause-right g c = λ x from to even some.

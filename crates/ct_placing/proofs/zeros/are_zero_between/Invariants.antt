@@ -6,7 +6,7 @@ abbrev pub invariant-loop-a : goal.invariant-loop-a
 invariant-loop-a g l = record {
   aligned : l.a % 8 ≡ 0;
   order : l.from ≤ l.a;
-  zeros : (x : ℕ) → l.from ≤ x → x < l.a → x < l.to → x % 8 ≡ 0 → shown_word (g.D.Pm.words l.dev) x ≡ 0;
+  zeros : (x : ℕ) → l.from ≤ x → x < l.a → x % 8 ≡ 0 → shown_word (g.D.Pm.words l.dev) x ≡ 0;
 }
 
 abbrev pub decreases-loop-a : goal.decreases-loop-a

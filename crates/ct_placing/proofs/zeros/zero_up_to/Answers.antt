@@ -1,18 +1,21 @@
 use Rattle.std.proofs.Common.{◌≡◌, ◌≢◌, ◌+◌, ◌-◌, ◌*◌, ◌/◌, ◌%◌, ◌<◌, ◌≤◌, ℕ, refl, sym, subst, arith}
 use Rattle.ct_base.specs.Walk.{page_at, word}
 use Rattle.ct_placing.specs.Zeros.{AreZero}
-use Rattle.ct_placing.proofs.Stretches.{shown_none, zero_shown, shown_zero}
+use Rattle.ct_placing.proofs.Stretches.{page_small, shown_none, zero_shown, shown_zero}
 use Rattle.ct_placing.proofs.zeros.zero_up_to.Goals as goal
 
 pub returns-then-absent-gt0-clause-zero : goal.returns-then-absent-gt0-clause-zero
-returns-then-absent-gt0-clause-zero g c = λ x from to below even.
+returns-then-absent-gt0-clause-zero g c = λ x from to even.
     shown_none (g.D.Pm.words c.args.dev.now) x (c.absent_from-absent.ensures.absent (x / 4096) (omega arith) (omega arith))
 
 pub overflow_add-word : goal.overflow_add-word
-overflow_add-word g c = omega (arith, c.place_of-word.ensures.on_device, c.requires.pages, c.min-end.ensures)
+overflow_add-word g c =
+    let w = g.D.Pm.words c.args.dev.now in
+    let small = page_small w (g.met.D.Pm.words_fit c.args.dev.now) (c.args.a / 4096) (c.absent_from-absent.ensures.present (omega arith)) in
+    omega (arith, c.place_of-word.ensures.value, small, c.min-end.ensures)
 
 pub returns-then-are_zero-clause-zero : goal.returns-then-are_zero-clause-zero
-returns-then-are_zero-clause-zero g c = λ x from to below even.
+returns-then-are_zero-clause-zero g c = λ x from to even.
     let w = g.D.Pm.words c.args.dev.now in
     let a = c.args.a in
     let e = c.min-end.result in

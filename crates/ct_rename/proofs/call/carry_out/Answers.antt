@@ -1,17 +1,15 @@
-use Rattle.std.proofs.Common.{◌≡◌, ◌∙◌, ℕ, List, Some, refl, sym, ap, subst, inl, arith}
+use Rattle.std.proofs.Common.{◌≡◌, ◌∙◌, ℕ, Some, refl, sym, ap, subst, inl, arith}
 use Rattle.std.proofs.lemmas.Bool.{eq-eqb, ne_eqb}
 use Rattle.ct_base.specs.Slots.{IsSlot, slot_name}
-use Rattle.ct_call.proofs.Landed.{shut_crash, tables_agree}
-use Rattle.ct_call.specs.Rooms.{KeepsTables}
+use Rattle.ct_call.proofs.Resting.{idle_phase}
+use Rattle.ct_commit.proofs.Resting.{tables_agree, tables_unstaged}
+use Rattle.ct_commit.specs.Rest.{IsAtRest, KeepsTables}
 use Rattle.ct_call.specs.Placed.{IsMoved}
 use Rattle.ct_call.specs.Plans.{level_of}
-use Rattle.ct_pm.specs.Phase.{Crash}
-use Rattle.ct_pm.proofs.Phases.{phase_here}
-use Rattle.ct_record.proofs.Moments.{each_settled}
 use Rattle.ct_record.specs.Seen.{device_behind}
-use Rattle.ct_record.proofs.Ended.{ok_then}
-use Rattle.ct_remove.proofs.Turning.{settled_lands}
-use Rattle.ct_remove.proofs.Whole.{rest_settled}
+use Rattle.ct_record.proofs.Ended.{ok_both, ok_then}
+use Rattle.ct_commit.proofs.Landed.{rest_as}
+use Rattle.ct_pm.specs.Device.{NothingPending}
 use Rattle.ct_tree.specs.Lands.{files}
 use Rattle.ct_rename.specs.Moves.{CanMove, HasTree, TurnedOrNot, moved, replaced}
 use Rattle.ct_rename.specs.Renamed.{CanRename, renamed, room_dir, slot_for}
@@ -21,16 +19,21 @@ use Rattle.ct_rename.proofs.call.carry_out.Goals as goal
 pub move_at-requires-clause-can : goal.move_at-requires-clause-can
 move_at-requires-clause-can g c =
     let can = subst (λ f. CanRename (g.D.Pm.words c.args.dev) f) c.in-New.is c.requires.can in
-    can_within c.requires.rest c.if-entry-spot.true can.0 can.2.lawful
+    can_within c.requires.mounted.rest c.if-entry-spot.true can.0 can.2.lawful
 
 pub move_at-requires-clause-there : goal.move_at-requires-clause-there
 move_at-requires-clause-there g c =
     let can = subst (λ f. CanRename (g.D.Pm.words c.args.dev) f) c.in-New.is c.requires.can in
-    within_there c.requires.rest (g.met.D.Pm.words_fit c.args.dev) c.if-entry-spot.true can.0
+    within_there c.requires.mounted.rest (g.met.D.Pm.words_fit c.args.dev) c.if-entry-spot.true can.0
 
-pub returns-then-entry-spot-clause-agrees : goal.returns-then-entry-spot-clause-agrees
-returns-then-entry-spot-clause-agrees g c =
-    ok_then (KeepsTables (g.D.Pm.words c.args.dev) (g.D.Pm.words (device_behind c.move_at.result))) c.move_at.result (λ keeps. tables_agree keeps c.requires.agrees) c.move_at.ensures.keeps
+pub returns-then-entry-spot-clause-mounted : goal.returns-then-entry-spot-clause-mounted
+returns-then-entry-spot-clause-mounted g c =
+    let now = g.D.Pm.words (device_behind c.move_at.result) in
+    let K : Type 0 = KeepsTables (g.D.Pm.words c.args.dev) now in
+    let L : Type 0 = NothingPending (g.D.Pm.told (device_behind c.move_at.result)) in
+    ok_then (K × (IsAtRest now × L)) c.move_at.result
+    (λ has. record { rest = has.1.0; unstaged = tables_unstaged has.1.0.tables has.0 c.requires.mounted.unstaged; settled = has.1.1; agrees = tables_agree has.0 c.requires.mounted.agrees })
+    (ok_both K (IsAtRest now × L) c.move_at.result c.move_at.ensures.keeps (ok_both (IsAtRest now) L c.move_at.result c.move_at.ensures.rest c.move_at.ensures.settled))
 
 pub returns-then-entry-spot-clause-phase : goal.returns-then-entry-spot-clause-phase
 returns-then-entry-spot-clause-phase g c =
@@ -57,20 +60,17 @@ returns-else-entry-spot-clause-moved g c =
 
 pub returns-in-Same-clause-phase : goal.returns-in-Same-clause-phase
 returns-in-Same-clause-phase g c =
-    let w = g.D.Pm.words c.args.dev in
-    let Q : List ℕ → Type 0 = TurnedOrNot (files w) (renamed (files w) c.args.form.now) in
-    let here : Crash Q 242 w = shut_crash w c.requires.rest.shut (inl (settled_lands (rest_settled c.requires.rest))) in
-    phase_here (g.D.Pm.told c.args.dev) Q (each_settled (g.D.Pm.told c.args.dev) w (Crash Q 242) (g.met.D.Pm.replays c.args.dev) c.requires.settled here) here
+    idle_phase (TurnedOrNot (files (g.D.Pm.words c.args.dev)) (renamed (files (g.D.Pm.words c.args.dev)) c.args.form.now)) c.requires.mounted (g.met.D.Pm.replays c.args.dev) (inl (rest_as c.requires.mounted.rest))
 
 pub name_at-name-requires-clause-readable : goal.name_at-name-requires-clause-readable
 name_at-name-requires-clause-readable g c =
     let can = subst (λ f. CanRename (g.D.Pm.words c.args.dev) f) c.in-Over.is c.requires.can in
-    slot_readable c.requires.rest c.in-Over.there.dir can.1.slot c.get.result c.get.ensures
+    slot_readable c.requires.mounted.rest c.in-Over.there.dir can.1.slot c.get.result c.get.ensures
 
 pub name_at-name-requires-clause-used : goal.name_at-name-requires-clause-used
 name_at-name-requires-clause-used g c =
     let can = subst (λ f. CanRename (g.D.Pm.words c.args.dev) f) c.in-Over.is c.requires.can in
-    subst (λ f. IsSlot f c.in-Over.there.offset) (sym (dir_is c.requires.rest c.in-Over.there.dir can.1.slot c.get.result c.get.ensures)) can.1.slot
+    subst (λ f. IsSlot f c.in-Over.there.offset) (sym (dir_is c.requires.mounted.rest c.in-Over.there.dir can.1.slot c.get.result c.get.ensures)) can.1.slot
 
 pub replace-requires-clause-can : goal.replace-requires-clause-can
 replace-requires-clause-can g c =
@@ -79,7 +79,7 @@ replace-requires-clause-can g c =
     let e = c.in-Over.entry in
     let there = c.in-Over.there in
     let name : c.as_slice.result.now ≡ slot_name (files w there.dir) there.offset =
-    c.as_slice.ensures.value ∙ c.name_at-name.ensures ∙ ap (λ f. slot_name f there.offset) (dir_is c.requires.rest c.in-Over.there.dir can.1.slot c.get.result c.get.ensures) in
+    c.as_slice.ensures.value ∙ c.name_at-name.ensures ∙ ap (λ f. slot_name f there.offset) (dir_is c.requires.mounted.rest c.in-Over.there.dir can.1.slot c.get.result c.get.ensures) in
     subst (λ y. CanMove w e.dir e.offset there.dir there.offset e.number y) (sym name) can.0
 
 pub replace-requires-clause-tree : goal.replace-requires-clause-tree
@@ -89,7 +89,7 @@ replace-requires-clause-tree g c =
     let e = c.in-Over.entry in
     let there = c.in-Over.there in
     let name : c.as_slice.result.now ≡ slot_name (files w there.dir) there.offset =
-    c.as_slice.ensures.value ∙ c.name_at-name.ensures ∙ ap (λ f. slot_name f there.offset) (dir_is c.requires.rest c.in-Over.there.dir can.1.slot c.get.result c.get.ensures) in
+    c.as_slice.ensures.value ∙ c.name_at-name.ensures ∙ ap (λ f. slot_name f there.offset) (dir_is c.requires.mounted.rest c.in-Over.there.dir can.1.slot c.get.result c.get.ensures) in
     subst (λ y. HasTree (replaced (files w) e.dir e.offset there.dir there.offset e.number there.number y)) (sym name) (subst (λ f. HasTree (renamed (files w) f)) c.in-Over.is c.requires.tree)
 
 pub returns-in-Over-clause-objects : goal.returns-in-Over-clause-objects
@@ -99,7 +99,7 @@ returns-in-Over-clause-objects g c =
     let e = c.in-Over.entry in
     let there = c.in-Over.there in
     let name : c.as_slice.result.now ≡ slot_name (files w there.dir) there.offset =
-    c.as_slice.ensures.value ∙ c.name_at-name.ensures ∙ ap (λ f. slot_name f there.offset) (dir_is c.requires.rest c.in-Over.there.dir can.1.slot c.get.result c.get.ensures) in
+    c.as_slice.ensures.value ∙ c.name_at-name.ensures ∙ ap (λ f. slot_name f there.offset) (dir_is c.requires.mounted.rest c.in-Over.there.dir can.1.slot c.get.result c.get.ensures) in
     ok_then (files (g.D.Pm.words (device_behind c.replace.result)) ≡ replaced (files w) e.dir e.offset there.dir there.offset e.number there.number c.as_slice.result.now) c.replace.result
     (λ is. is ∙ ap (λ y. replaced (files w) e.dir e.offset there.dir there.offset e.number there.number y) name ∙ sym (ap (renamed (files w)) c.in-Over.is)) c.replace.ensures.objects
 
@@ -110,5 +110,5 @@ returns-in-Over-clause-phase g c =
     let e = c.in-Over.entry in
     let there = c.in-Over.there in
     let name : c.as_slice.result.now ≡ slot_name (files w there.dir) there.offset =
-    c.as_slice.ensures.value ∙ c.name_at-name.ensures ∙ ap (λ f. slot_name f there.offset) (dir_is c.requires.rest c.in-Over.there.dir can.1.slot c.get.result c.get.ensures) in
+    c.as_slice.ensures.value ∙ c.name_at-name.ensures ∙ ap (λ f. slot_name f there.offset) (dir_is c.requires.mounted.rest c.in-Over.there.dir can.1.slot c.get.result c.get.ensures) in
     wider (omega arith) (ap (λ y. replaced (files w) e.dir e.offset there.dir there.offset e.number there.number y) name ∙ sym (ap (renamed (files w)) c.in-Over.is)) c.replace.ensures.phase

@@ -18,7 +18,7 @@ pub returns-clause-objects : goal.returns-clause-objects
 returns-clause-objects g c = ok_then (M g c) c.move_now.result (λ m. files_are m) c.move_now.ensures.moves
 
 pub returns-clause-rest : goal.returns-clause-rest
-returns-clause-rest g c = ok_then (M g c × S g c) c.move_now.result (λ has. moved_rest has.0 c.requires.rest c.requires.tree has.1) (ok_both (M g c) (S g c) c.move_now.result c.move_now.ensures.moves c.move_now.ensures.shut)
+returns-clause-rest g c = ok_then (M g c × S g c) c.move_now.result (λ has. moved_rest has.0 c.requires.tree has.1) (ok_both (M g c) (S g c) c.move_now.result c.move_now.ensures.moves c.move_now.ensures.shut)
 
 pub returns-clause-keeps : goal.returns-clause-keeps
 returns-clause-keeps g c = ok_then (M g c) c.move_now.result (λ m. keeps m) c.move_now.ensures.moves

@@ -2,7 +2,7 @@ use Rattle.std.proofs.Common.{◌≡◌, ◌+◌, ◌/◌, ◌%◌, ◌++◌, sy
 use Rattle.ct_base.specs.Rules.{HasRoom}
 use Rattle.ct_base.specs.Settled.{Named}
 use Rattle.ct_base.specs.Words.{Rewrites, pairs_to, place_at}
-use Rattle.ct_call.proofs.FilePages.{base_whole}
+use Rattle.ct_commit.proofs.Pages.{base_whole}
 use Rattle.ct_dir.proofs.Held.{room_there, slot_high, used_there}
 use Rattle.ct_dir.proofs.Texts.{length-slot_words}
 use Rattle.ct_dir.specs.Packed.{empty_words, slot_words}

@@ -1,9 +1,9 @@
 use Rattle.std.proofs.Common.{Result, Ok, Err, sym, subst, ◌∙◌, arith}
-use Rattle.ct_remove.specs.Found.{IsEntryAt}
+use Rattle.ct_find.specs.Entries.{IsEntryAt}
 use Rattle.ct_rename.specs.Forms.{IsTarget, Meets}
 use Rattle.ct_rename.proofs.find.find_form.Given.{Over}
 use Rattle.ct_tree.specs.declared.call.Refusal.{Refusal}
-use Rattle.ct_remove.proofs.Fitting.{entry_live, entry_readable, leaf}
+use Rattle.ct_find.proofs.Fitting.{entry_live, entry_readable, leaf}
 use Rattle.ct_rename.proofs.Checking.{missing_refused, new_passes, over_passes, paths_refused, same_passes, self_refused, target_refused}
 use Rattle.ct_rename.proofs.Forming.{way_answer}
 use Rattle.ct_rename.proofs.find.find_form.Goals as goal

@@ -1,18 +1,18 @@
-use Rattle.std.proofs.Common.{◌≡◌, ◌≤◌, ◌+◌, ◌/◌, ℕ, List, sym, subst, ◌∙◌, arith}
+use Rattle.std.proofs.Common.{◌≡◌, ◌+◌, ◌/◌, ℕ, List, sym, subst, ◌∙◌, arith}
 use Rattle.std.specs.Prelude.{OnOk}
 use Rattle.ct_base.specs.declared.inode.Inode.{Inode}
 use Rattle.ct_base.specs.Inode.{inode}
-use Rattle.ct_base.specs.Settled.{Named, Pair}
+use Rattle.ct_base.specs.Settled.{Named}
 use Rattle.ct_base.specs.View.{view}
 use Rattle.ct_base.specs.Walk.{page_at}
 use Rattle.ct_record.specs.Record.{Concluded}
-use Rattle.ct_record.specs.Seen.{count_of, device_behind, drafted, pairs_of, words_under}
-use Rattle.ct_record.proofs.Ended.{drafted_since, ok_both, ok_then}
-use Rattle.ct_tree.specs.Lands.{files}
-use Rattle.ct_rename.specs.Moves.{IsMoveWord, MovesEntry, moved}
-use Rattle.ct_rename.proofs.Changing.{AreBytes, MovesBy, moved_by, moved_changed, moves_by_beside}
+use Rattle.ct_record.specs.Seen.{device_behind, drafted, pairs_of, words_under}
+use Rattle.ct_record.proofs.Ended.{ok_both, ok_then}
+use Rattle.ct_rename.specs.Moves.{IsMoveWord, MovesEntry}
+use Rattle.ct_rename.proofs.Changing.{AreBytes, MovesBy, moved_by, moves_by_beside, moving_settles, moving_spares}
 use Rattle.ct_rename.proofs.Moving.{few, from_live}
-use Rattle.ct_rename.proofs.Recording.{Change, Drafted, change_done, change_of, ends_phase}
+use Rattle.ct_commit.specs.Made.{Drafted}
+use Rattle.ct_commit.proofs.Made.{made_done, made_ends, made_of, made_phase}
 use Rattle.ct_rename.proofs.Spared.{move_spares}
 use Rattle.ct_rename.proofs.record.move_now.Given.{Over}
 use Rattle.ct_rename.proofs.record.move_now.Goals as goal
@@ -42,11 +42,11 @@ module _ (g : Over) (c : goal.After-conclude g) where
       (subst (λ e. IsMoveWord (g.D.Pm.words e) (c.get-from.result.base + c.args.entry.offset) (c.args.spot.now.inode.base + c.args.spot.now.offset) c.args.spot.now.dir word) (c.begin-draft.ensures.dev ∙ c.of.ensures) (names word is))))
       c.draft_move-written.ensures.named
 
-  of_draft : Drafted R N 65 c.draft_move-written.result c.args.dev c.begin-draft.result c.draft_move-written.new.draft
+  of_draft : Drafted R (λ was. N) 65 c.draft_move-written.result c.args.dev c.begin-draft.result c.draft_move-written.new.draft
   of_draft = record {
     is = c.begin-draft.ensures.dev ∙ c.of.ensures;
     drafts = c.draft_move-written.ensures.drafts;
-    does =
+    makes =
         let M : Type 0 = MovesEntry (words_under c.begin-draft.result) (drafted c.draft_move-written.new.draft) c.args.entry.dir c.args.entry.offset c.args.spot.now.dir c.args.spot.now.offset c.args.entry.number c.args.spot.now.name.now in
         ok_then (M × AreBytes c.args.spot.now.name.now) c.draft_move-written.result (λ has. record { moves = has.0; small = has.1 })
         (ok_both M (AreBytes c.args.spot.now.name.now) c.draft_move-written.result c.draft_move-written.ensures.moves c.draft_move-written.ensures.bytes);
@@ -57,20 +57,13 @@ module _ (g : Over) (c : goal.After-conclude g) where
   there : page_at w 4 (((inode (view w) c.args.spot.now.dir).base + c.args.spot.now.offset) / 4096) ≡ 0 → ⊥
   there = subst (λ (f : Inode). page_at w 4 ((f.base + c.args.spot.now.offset) / 4096) ≡ 0 → ⊥) (sym c.requires.to) c.requires.there
 
-  made : (pairs : List Pair) × (Change w pairs (moved (files w) c.args.entry.dir c.args.entry.offset c.args.spot.now.dir c.args.spot.now.offset c.args.entry.number c.args.spot.now.name.now)
-      × OnOk c.draft_move-written.result ((pairs_of c.draft_move-written.new.draft ≡ pairs) × (count_of c.draft_move-written.new.draft ≤ 65)))
-  made = change_of R moves_by_beside N 65 c.draft_move-written.result c.args.dev c.begin-draft.result c.draft_move-written.new.draft of_draft (moved (files w) c.args.entry.dir c.args.entry.offset c.args.spot.now.dir c.args.spot.now.offset c.args.entry.number c.args.spot.now.name.now)
-      c.requires.can.rest (move_spares c.requires.can (g.met.D.Pm.words_fit c.args.dev) there) (moved_changed c.requires.can c.requires.tree)
-
-  ends : Concluded w (g.D.Pm.told c.args.dev) made.0 65 (g.D.Pm.words (device_behind c.conclude.result)) (g.D.Pm.told (device_behind c.conclude.result)) c.conclude.result
-  ends =
-      c.conclude.ensures.concluded w (g.D.Pm.told c.args.dev) made.0 65
-      (drafted_since c.args.dev c.begin-draft.result c.draft_move-written.new.draft (c.begin-draft.ensures.dev ∙ c.of.ensures) c.draft_move-written.ensures.drafts) made.1.1
+  ends : Concluded w (g.D.Pm.told c.args.dev) (made_of of_draft moves_by_beside).0 65 (g.D.Pm.words (device_behind c.conclude.result)) (g.D.Pm.told (device_behind c.conclude.result)) c.conclude.result
+  ends = made_ends of_draft moves_by_beside c.conclude.ensures.concluded
 
 pub returns-clause-moves : goal.returns-clause-moves
 returns-clause-moves g c =
     ok_then (R g c (g.D.Pm.words c.args.dev) (g.D.Pm.words (device_behind c.conclude.result))) c.conclude.result (λ m. moved_by c.requires.can m)
-    (change_done (R g c) moves_by_beside (N g c) 65 c.draft_move-written.result c.args.dev c.begin-draft.result c.draft_move-written.new.draft (of_draft g c) c.conclude.result (g.D.Pm.words (device_behind c.conclude.result)) c.conclude.ensures.done c.conclude.ensures.words)
+    (made_done (of_draft g c) moves_by_beside c.conclude.result (g.D.Pm.words (device_behind c.conclude.result)) c.conclude.ensures.done c.conclude.ensures.words)
 
 pub returns-clause-shut : goal.returns-clause-shut
 returns-clause-shut g c = (ends g c).shut
@@ -79,4 +72,5 @@ pub returns-clause-settled : goal.returns-clause-settled
 returns-clause-settled g c = (ends g c).settled
 
 pub returns-clause-phase : goal.returns-clause-phase
-returns-clause-phase g c = ends_phase (made g c).1.0 (ends g c)
+returns-clause-phase g c =
+    made_phase (made_of (of_draft g c) moves_by_beside).1.0 (moving_spares c.requires.can c.requires.tree (move_spares c.requires.can (g.met.D.Pm.words_fit c.args.dev) (there g c))) (moving_settles c.requires.can c.requires.tree) (ends g c)

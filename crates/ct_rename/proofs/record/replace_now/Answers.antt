@@ -1,17 +1,17 @@
-use Rattle.std.proofs.Common.{◌≡◌, ◌≤◌, ◌+◌, ℕ, List, subst, ◌∙◌, arith}
+use Rattle.std.proofs.Common.{◌+◌, ℕ, List, subst, ◌∙◌, arith}
 use Rattle.std.specs.Prelude.{OnOk}
 use Rattle.ct_base.specs.declared.inode.Inode.{Inode}
 use Rattle.ct_base.specs.Inode.{inode}
-use Rattle.ct_base.specs.Settled.{Named, Pair}
+use Rattle.ct_base.specs.Settled.{Named}
 use Rattle.ct_base.specs.View.{view}
 use Rattle.ct_record.specs.Record.{Concluded}
-use Rattle.ct_record.specs.Seen.{count_of, device_behind, drafted, pairs_of, words_under}
-use Rattle.ct_record.proofs.Ended.{drafted_since, ok_both, ok_then}
-use Rattle.ct_tree.specs.Lands.{files}
-use Rattle.ct_rename.specs.Moves.{IsReplaceWord, Replaces, replaced}
-use Rattle.ct_rename.proofs.Changing.{AreBytes, ReplacesBy, replaced_changed, replaces_by_beside}
+use Rattle.ct_record.specs.Seen.{device_behind, drafted, pairs_of, words_under}
+use Rattle.ct_record.proofs.Ended.{ok_both, ok_then}
+use Rattle.ct_rename.specs.Moves.{IsReplaceWord, Replaces}
+use Rattle.ct_rename.proofs.Changing.{AreBytes, ReplacesBy, replaces_by_beside, replacing_settles, replacing_spares}
 use Rattle.ct_rename.proofs.Moving.{few, from_live}
-use Rattle.ct_rename.proofs.Recording.{Change, Drafted, change_done, change_of, ends_phase}
+use Rattle.ct_commit.specs.Made.{Drafted}
+use Rattle.ct_commit.proofs.Made.{made_done, made_ends, made_of, made_phase}
 use Rattle.ct_rename.proofs.Spared.{replace_spares}
 use Rattle.ct_rename.proofs.record.replace_now.Given.{Over}
 use Rattle.ct_rename.proofs.record.replace_now.Goals as goal
@@ -47,11 +47,11 @@ module _ (g : Over) (c : goal.After-conclude g) where
       (subst (λ e. IsReplaceWord (g.D.Pm.words e) (c.get-from.result.base + c.args.entry.offset) c.get-to.result.base c.args.gone.offset c.args.gone.number word) (c.begin-draft.ensures.dev ∙ c.of.ensures) (names word is))))
       c.draft_replace-written.ensures.named
 
-  of_draft : Drafted R N 242 c.draft_replace-written.result c.args.dev c.begin-draft.result c.draft_replace-written.new.draft
+  of_draft : Drafted R (λ was. N) 242 c.draft_replace-written.result c.args.dev c.begin-draft.result c.draft_replace-written.new.draft
   of_draft = record {
     is = c.begin-draft.ensures.dev ∙ c.of.ensures;
     drafts = c.draft_replace-written.ensures.drafts;
-    does =
+    makes =
         let M : Type 0 = Replaces (words_under c.begin-draft.result) (drafted c.draft_replace-written.new.draft) c.args.entry.dir c.args.entry.offset c.args.gone.dir c.args.gone.offset c.args.entry.number c.args.gone.number c.args.name.now in
         ok_then (M × AreBytes c.args.name.now) c.draft_replace-written.result (λ has. record { replaces = has.0; small = has.1 })
         (ok_both M (AreBytes c.args.name.now) c.draft_replace-written.result c.draft_replace-written.ensures.replaces c.draft_replace-written.ensures.bytes);
@@ -59,18 +59,11 @@ module _ (g : Over) (c : goal.After-conclude g) where
     few = c.draft_replace-written.ensures.few;
   }
 
-  made : (pairs : List Pair) × (Change w pairs (replaced (files w) c.args.entry.dir c.args.entry.offset c.args.gone.dir c.args.gone.offset c.args.entry.number c.args.gone.number c.args.name.now)
-      × OnOk c.draft_replace-written.result ((pairs_of c.draft_replace-written.new.draft ≡ pairs) × (count_of c.draft_replace-written.new.draft ≤ 242)))
-  made = change_of R replaces_by_beside N 242 c.draft_replace-written.result c.args.dev c.begin-draft.result c.draft_replace-written.new.draft of_draft (replaced (files w) c.args.entry.dir c.args.entry.offset c.args.gone.dir c.args.gone.offset c.args.entry.number c.args.gone.number c.args.name.now)
-      c.requires.can.rest (replace_spares c.requires.can c.requires.asked (g.met.D.Pm.words_fit c.args.dev)) (replaced_changed c.requires.can c.requires.asked c.requires.away c.requires.tree)
-
-  ends : Concluded w (g.D.Pm.told c.args.dev) made.0 242 (g.D.Pm.words (device_behind c.conclude.result)) (g.D.Pm.told (device_behind c.conclude.result)) c.conclude.result
-  ends =
-      c.conclude.ensures.concluded w (g.D.Pm.told c.args.dev) made.0 242
-      (drafted_since c.args.dev c.begin-draft.result c.draft_replace-written.new.draft (c.begin-draft.ensures.dev ∙ c.of.ensures) c.draft_replace-written.ensures.drafts) made.1.1
+  ends : Concluded w (g.D.Pm.told c.args.dev) (made_of of_draft replaces_by_beside).0 242 (g.D.Pm.words (device_behind c.conclude.result)) (g.D.Pm.told (device_behind c.conclude.result)) c.conclude.result
+  ends = made_ends of_draft replaces_by_beside c.conclude.ensures.concluded
 
   done : OnOk c.conclude.result (R w (g.D.Pm.words (device_behind c.conclude.result)))
-  done = change_done R replaces_by_beside N 242 c.draft_replace-written.result c.args.dev c.begin-draft.result c.draft_replace-written.new.draft of_draft c.conclude.result (g.D.Pm.words (device_behind c.conclude.result)) c.conclude.ensures.done c.conclude.ensures.words
+  done = made_done of_draft replaces_by_beside c.conclude.result (g.D.Pm.words (device_behind c.conclude.result)) c.conclude.ensures.done c.conclude.ensures.words
 
 pub returns-clause-replaces : goal.returns-clause-replaces
 returns-clause-replaces g c = ok_then (R g c (g.D.Pm.words c.args.dev) (g.D.Pm.words (device_behind c.conclude.result))) c.conclude.result (λ m. m.replaces) (done g c)
@@ -85,4 +78,6 @@ pub returns-clause-settled : goal.returns-clause-settled
 returns-clause-settled g c = (ends g c).settled
 
 pub returns-clause-phase : goal.returns-clause-phase
-returns-clause-phase g c = ends_phase (made g c).1.0 (ends g c)
+returns-clause-phase g c =
+    made_phase (made_of (of_draft g c) replaces_by_beside).1.0 (replacing_spares c.requires.can c.requires.asked c.requires.away c.requires.tree (replace_spares c.requires.can c.requires.asked (g.met.D.Pm.words_fit c.args.dev)))
+    (replacing_settles c.requires.can c.requires.asked c.requires.away c.requires.tree) (ends g c)

@@ -1,4 +1,4 @@
-use Rattle.std.proofs.Common.{◌≡◌, ◌⊎◌, ◌+◌, ◌*◌, ◌/◌, ◌≤◌, ℕ, List, [], sym, ap, subst, ◌∙◌, inl, inr, arith}
+use Rattle.std.proofs.Common.{◌≡◌, ◌⊎◌, ◌+◌, ◌*◌, ◌/◌, ◌≤◌, ℕ, List, sym, ap, subst, ◌∙◌, inl, inr, arith}
 use Rattle.std.specs.Prelude.{OnOk}
 use Rattle.ct_base.specs.declared.inode.Inode.{Inode}
 use Rattle.ct_base.specs.Settled.{IsShut, Named, Pair, with_pairs}
@@ -6,15 +6,17 @@ use Rattle.ct_base.specs.Walk.{page_at}
 use Rattle.ct_record.specs.Record.{Concluded}
 use Rattle.ct_record.specs.Seen.{count_of, device_behind, drafted, pairs_of, words_under}
 use Rattle.ct_record.proofs.Drafts.{ok_map}
-use Rattle.ct_record.proofs.Ended.{drafted_since, ok_both}
+use Rattle.ct_record.proofs.Ended.{ok_both}
 use Rattle.ct_words.specs.Shown.{shown_word}
-use Rattle.ct_write.specs.Lengthened.{IsLengthened}
+use Rattle.ct_write.specs.Lengthened.{IsLengthened, IsLengthenedOrNot}
 use Rattle.ct_write.specs.Recorded.{IsBare, Sized}
 use Rattle.ct_write.proofs.Changing.{changed_sound}
 use Rattle.ct_write.proofs.Lengthening.{few, file_lengthened, inode_there, lengthened, lengthened_ready, lengthening, lengthening_turns, size_shown, sized_agrees}
-use Rattle.ct_write.proofs.Settling.{Writing, ends_made, ends_moments, ends_reads, recorded_end, writing}
+use Rattle.ct_pm.proofs.Phases.{phase_weaker}
+use Rattle.ct_commit.specs.Made.{Drafted}
+use Rattle.ct_commit.proofs.Made.{made_done, made_ends, made_of, made_phase, state_or}
 use Rattle.ct_write.proofs.Sizing.{sized_done}
-use Rattle.ct_write.proofs.Turning.{record_phase}
+use Rattle.ct_write.proofs.Turning.{bare_spares, record_state}
 use Rattle.ct_write.proofs.longer.lengthen.Given.{Over}
 use Rattle.ct_write.proofs.longer.lengthen.Goals as goal
 
@@ -45,20 +47,14 @@ module _ (g : Over) (c : goal.After-conclude g) where
   count : OnOk c.put_size-drafted.result (count_of c.put_size-drafted.new.draft ≤ 5111)
   count = ok_map c.put_size-drafted.result (λ (le : count_of c.put_size-drafted.new.draft ≤ count_of c.begin-draft.result + 1). let none = c.begin-draft.ensures.count in let goal : count_of c.put_size-drafted.new.draft ≤ 5111 = omega (arith, le, none) in goal) c.put_size-drafted.ensures.count
 
-  made : (pairs : List Pair) × (Writing (g.D.Pm.words c.args.dev) pairs (λ after. Sized (g.D.Pm.words c.args.dev) after c.args.inode c.args.len) × OnOk c.put_size-drafted.result ((pairs_of c.put_size-drafted.new.draft ≡ pairs) × (count_of c.put_size-drafted.new.draft ≤ 5111)))
-  made =
-      writing (λ start after. Sized start after c.args.inode c.args.len) (sized_done c.args.inode c.args.len) c.put_size-drafted.result c.args.dev c.begin-draft.result c.put_size-drafted.new.draft (c.begin-draft.ensures.dev ∙ c.of.ensures)
-      c.put_size-drafted.ensures.drafts sized bare count
+  drafts : Drafted (λ start after. Sized start after c.args.inode c.args.len) IsBare 5111 c.put_size-drafted.result c.args.dev c.begin-draft.result c.put_size-drafted.new.draft
+  drafts = record { is = c.begin-draft.ensures.dev ∙ c.of.ensures; drafts = c.put_size-drafted.ensures.drafts; makes = sized; named = bare; few = count }
 
-  ends : Concluded (g.D.Pm.words c.args.dev) (g.D.Pm.told c.args.dev) made.0 5111 (g.D.Pm.words (device_behind c.conclude.result)) (g.D.Pm.told (device_behind c.conclude.result)) c.conclude.result
-  ends =
-      c.conclude.ensures.concluded (g.D.Pm.words c.args.dev) (g.D.Pm.told c.args.dev) made.0 5111
-      (drafted_since c.args.dev c.begin-draft.result c.put_size-drafted.new.draft (c.begin-draft.ensures.dev ∙ c.of.ensures) c.put_size-drafted.ensures.drafts) made.1.1
+  ends : Concluded (g.D.Pm.words c.args.dev) (g.D.Pm.told c.args.dev) (made_of drafts (sized_done c.args.inode c.args.len)).0 5111 (g.D.Pm.words (device_behind c.conclude.result)) (g.D.Pm.told (device_behind c.conclude.result)) c.conclude.result
+  ends = made_ends drafts (sized_done c.args.inode c.args.len) c.conclude.ensures.concluded
 
   done : OnOk c.conclude.result (Sized (g.D.Pm.words c.args.dev) (g.D.Pm.words (device_behind c.conclude.result)) c.args.inode c.args.len)
-  done =
-      recorded_end (λ start after. Sized start after c.args.inode c.args.len) (sized_done c.args.inode c.args.len) c.put_size-drafted.result c.conclude.result c.args.dev c.begin-draft.result c.put_size-drafted.new.draft (g.D.Pm.words (device_behind c.conclude.result))
-      (c.begin-draft.ensures.dev ∙ c.of.ensures) c.conclude.ensures.done sized c.conclude.ensures.words
+  done = made_done drafts (sized_done c.args.inode c.args.len) c.conclude.result (g.D.Pm.words (device_behind c.conclude.result)) c.conclude.ensures.done c.conclude.ensures.words
 
 pub returns-clause-lengthened : goal.returns-clause-lengthened
 returns-clause-lengthened g c = ok_map c.conclude.result (λ s. lengthened c.requires.can s) (done g c)
@@ -82,5 +78,6 @@ returns-clause-ready g c =
 
 pub returns-clause-phase : goal.returns-clause-phase
 returns-clause-phase g c =
-    record_phase (λ after. IsLengthened (g.D.Pm.words c.args.dev) after c.args.inode c.args.len) (lengthening_turns c.requires.can) (λ after s. lengthened c.requires.can s)
-    (ends_moments (made g c).1.0 (ends g c)) (ends_reads (made g c).1.0 (ends g c)) (ends_made (made g c).1.0 (ends g c))
+    let spares = bare_spares (lengthening_turns c.requires.can) in
+    phase_weaker (IsLengthenedOrNot (g.D.Pm.words c.args.dev) c.args.inode c.args.len) (record_state (lengthening_turns c.requires.can) (λ after. IsLengthened (g.D.Pm.words c.args.dev) after c.args.inode c.args.len) (λ after s. lengthened c.requires.can s)) (omega arith)
+    (made_phase (made_of (drafts g c) (sized_done c.args.inode c.args.len)).1.0 spares (state_or spares) (ends g c))

@@ -3,7 +3,7 @@ use Rattle.ct_base.specs.Rules.{placed}
 use Rattle.ct_write.proofs.Turning.{still_phase}
 use Rattle.ct_write.proofs.Opening.{can_record, first_from, first_to, fits_slot, low_end, open_missing, opened, rest_of, second_to, write_sized}
 use Rattle.ct_write.proofs.Reaching.{recorded_agrees}
-use Rattle.ct_write.proofs.Telling.{done_ready, done_sound, done_written, end_told, record_told, write_done, write_phase}
+use Rattle.ct_write.proofs.Telling.{done_ready, done_sound, done_written, end_told, record_told, told_spares, write_done, write_phase}
 use Rattle.ct_write.proofs.Files.{file_written}
 use Rattle.ct_write.specs.Written.{IsWritten}
 use Rattle.ct_write.proofs.whole.write_given.Goals as goal
@@ -44,9 +44,13 @@ returns-in-Err-clause-phase g c = still_phase (λ after. IsWritten (g.D.Pm.words
 pub write_now-requires-clause-can : goal.write_now-requires-clause-can
 write_now-requires-clause-can g c = can_record (opened c.args.given.now c.requires.can c.requires.bytes c.get-file.ensures c.page_of-a.ensures c.staged_page-b.ensures c.touched-n.ensures) c.in-Ok.ensures.prepared
 
+pub write_now-requires-clause-spares : goal.write_now-requires-clause-spares
+write_now-requires-clause-spares g c =
+    told_spares (opened c.args.given.now c.requires.can c.requires.bytes c.get-file.ensures c.page_of-a.ensures c.staged_page-b.ensures c.touched-n.ensures) c.in-Ok.ensures.prepared c.prepare.ensures.phase (write_sized (opened c.args.given.now c.requires.can c.requires.bytes c.get-file.ensures c.page_of-a.ensures c.staged_page-b.ensures c.touched-n.ensures) c.max-size.ensures)
+
 pub returns-in-Err-write_now-clause-phase : goal.returns-in-Err-write_now-clause-phase
 returns-in-Err-write_now-clause-phase g c = write_phase (opened c.args.given.now c.requires.can c.requires.bytes c.get-file.ensures c.page_of-a.ensures c.staged_page-b.ensures c.touched-n.ensures) c.max-size.ensures (
-    record_told (opened c.args.given.now c.requires.can c.requires.bytes c.get-file.ensures c.page_of-a.ensures c.staged_page-b.ensures c.touched-n.ensures) c.in-Ok.ensures.prepared c.prepare.ensures.phase (write_sized (opened c.args.given.now c.requires.can c.requires.bytes c.get-file.ensures c.page_of-a.ensures c.staged_page-b.ensures c.touched-n.ensures) c.max-size.ensures) c.in-Err-write_now.ensures.any_moment c.in-Err-write_now.ensures.reads c.in-Err-write_now.ensures.made)
+    record_told (opened c.args.given.now c.requires.can c.requires.bytes c.get-file.ensures c.page_of-a.ensures c.staged_page-b.ensures c.touched-n.ensures) c.in-Ok.ensures.prepared c.prepare.ensures.phase (write_sized (opened c.args.given.now c.requires.can c.requires.bytes c.get-file.ensures c.page_of-a.ensures c.staged_page-b.ensures c.touched-n.ensures) c.max-size.ensures) c.in-Err-write_now.ensures.phase)
 
 pub unstage-requires-clause-agrees : goal.unstage-requires-clause-agrees
 unstage-requires-clause-agrees g c = recorded_agrees c.in-Ok-write_now.ensures.recorded c.in-Ok.ensures.agrees
@@ -54,13 +58,13 @@ unstage-requires-clause-agrees g c = recorded_agrees c.in-Ok-write_now.ensures.r
 pub returns-in-Err-unstage-clause-phase : goal.returns-in-Err-unstage-clause-phase
 returns-in-Err-unstage-clause-phase g c = write_phase (opened c.args.given.now c.requires.can c.requires.bytes c.get-file.ensures c.page_of-a.ensures c.staged_page-b.ensures c.touched-n.ensures) c.max-size.ensures (
     end_told (opened c.args.given.now c.requires.can c.requires.bytes c.get-file.ensures c.page_of-a.ensures c.staged_page-b.ensures c.touched-n.ensures) c.in-Ok.ensures.prepared c.prepare.ensures.phase (write_sized (opened c.args.given.now c.requires.can c.requires.bytes c.get-file.ensures c.page_of-a.ensures c.staged_page-b.ensures c.touched-n.ensures) c.max-size.ensures) c.in-Ok-write_now.ensures.recorded c.in-Ok-write_now.ensures.shut
-    (record_told (opened c.args.given.now c.requires.can c.requires.bytes c.get-file.ensures c.page_of-a.ensures c.staged_page-b.ensures c.touched-n.ensures) c.in-Ok.ensures.prepared c.prepare.ensures.phase (write_sized (opened c.args.given.now c.requires.can c.requires.bytes c.get-file.ensures c.page_of-a.ensures c.staged_page-b.ensures c.touched-n.ensures) c.max-size.ensures) c.in-Ok-write_now.ensures.any_moment c.in-Ok-write_now.ensures.reads c.in-Ok-write_now.ensures.made)
+    (record_told (opened c.args.given.now c.requires.can c.requires.bytes c.get-file.ensures c.page_of-a.ensures c.staged_page-b.ensures c.touched-n.ensures) c.in-Ok.ensures.prepared c.prepare.ensures.phase (write_sized (opened c.args.given.now c.requires.can c.requires.bytes c.get-file.ensures c.page_of-a.ensures c.staged_page-b.ensures c.touched-n.ensures) c.max-size.ensures) c.in-Ok-write_now.ensures.phase)
     (c.unstage.ensures.images c.in-Ok-write_now.ensures.settled) c.unstage.ensures.either c.unstage.ensures.made)
 
 pub returns-in-Ok-unstage-clause-phase : goal.returns-in-Ok-unstage-clause-phase
 returns-in-Ok-unstage-clause-phase g c = write_phase (opened c.args.given.now c.requires.can c.requires.bytes c.get-file.ensures c.page_of-a.ensures c.staged_page-b.ensures c.touched-n.ensures) c.max-size.ensures (
     end_told (opened c.args.given.now c.requires.can c.requires.bytes c.get-file.ensures c.page_of-a.ensures c.staged_page-b.ensures c.touched-n.ensures) c.in-Ok.ensures.prepared c.prepare.ensures.phase (write_sized (opened c.args.given.now c.requires.can c.requires.bytes c.get-file.ensures c.page_of-a.ensures c.staged_page-b.ensures c.touched-n.ensures) c.max-size.ensures) c.in-Ok-write_now.ensures.recorded c.in-Ok-write_now.ensures.shut
-    (record_told (opened c.args.given.now c.requires.can c.requires.bytes c.get-file.ensures c.page_of-a.ensures c.staged_page-b.ensures c.touched-n.ensures) c.in-Ok.ensures.prepared c.prepare.ensures.phase (write_sized (opened c.args.given.now c.requires.can c.requires.bytes c.get-file.ensures c.page_of-a.ensures c.staged_page-b.ensures c.touched-n.ensures) c.max-size.ensures) c.in-Ok-write_now.ensures.any_moment c.in-Ok-write_now.ensures.reads c.in-Ok-write_now.ensures.made)
+    (record_told (opened c.args.given.now c.requires.can c.requires.bytes c.get-file.ensures c.page_of-a.ensures c.staged_page-b.ensures c.touched-n.ensures) c.in-Ok.ensures.prepared c.prepare.ensures.phase (write_sized (opened c.args.given.now c.requires.can c.requires.bytes c.get-file.ensures c.page_of-a.ensures c.staged_page-b.ensures c.touched-n.ensures) c.max-size.ensures) c.in-Ok-write_now.ensures.phase)
     (c.unstage.ensures.images c.in-Ok-write_now.ensures.settled) c.unstage.ensures.either c.unstage.ensures.made)
 
 pub returns-in-Ok-unstage-clause-written : goal.returns-in-Ok-unstage-clause-written

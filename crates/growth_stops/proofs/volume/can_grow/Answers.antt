@@ -12,4 +12,4 @@ returns-clause-can g c holds =
       | else-inode-ne-NO_PARTITION-via-then-inode-ne-NO_PARTITION+else-inode-level w ↦ inr (omega arith)
       | else-inode-ne-NO_PARTITION-via-else-inode-ne-NO_PARTITION w ↦ inl (omega arith)
     ] in
-    grows c.requires.rest c.args.number c.requires.from c.requires.to c.args.level c.get-inode.result c.get-inode.ensures c.if-inode-eq0.false c.if-level-gt9.false more c.in-Some.ensures.some
+    grows c.requires.rest c.requires.unstaged c.args.number c.requires.from c.requires.to c.args.level c.get-inode.result c.get-inode.ensures c.if-inode-eq0.false c.if-level-gt9.false more c.in-Some.ensures.some

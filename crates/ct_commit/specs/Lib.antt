@@ -1,0 +1,4 @@
+pub mod Closed
+pub mod Landing
+pub mod Made
+pub mod Rest

@@ -1,0 +1,4 @@
+pub mod Finding
+pub mod Fitting
+pub mod Rooted
+pub mod Spotting

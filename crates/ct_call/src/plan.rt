@@ -42,7 +42,8 @@ impl Growth {
     }
 }
 
-/// The plan of a call: it is made once, and serves to count what the call needs, to refuse it, and to make what is missing.
+/// The plan of a call: it is made once, and serves to count what the call needs, to refuse it, and, where `rest` is not
+/// empty, to make what is missing. Other calls make theirs in their own rooms, and no more than was counted.
 #[derive(Drop)]
 pub struct CallPlan {
     pub growth: Growth,

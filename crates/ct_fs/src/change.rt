@@ -67,8 +67,9 @@ impl<D: Pm> Fs<D> {
         ensures still { IsNone (mounts self.old) → self.new.state ≡ self.old.state }
         ensures does { (was : Volume D) → mounts self.old ≡ Some was → (t : Tree) → StandsFor (D.words was.dev) t
             → Does was t (op_of call.now) self.new.state result }
-        // After Ok a new object has the lowest free inode and the first empty slot, an object that grew has moved to the first
-        // free partition of its level with its pages, and no page more than needed was taken.
+        // After Ok a new object has the lowest free inode and the first empty slot, a renamed entry the slot of the entry that it
+        // replaced, its own within its directory, or else the first empty one, an object that grew has moved to the first free
+        // partition of its level with its pages, and no page more than needed was taken.
         ensures places { (was : Volume D) → mounts self.old ≡ Some was
             → OnOk result (IsSomeAnd (ready_in self.new.state) (λ now. Places (D.words was.dev) (D.words now.dev) (op_of call.now))) }
     {

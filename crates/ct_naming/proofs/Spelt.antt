@@ -32,14 +32,6 @@ use Rattle.ct_dir.specs.Directory.{IsText, dir_of}
 use Rattle.ct_naming.specs.declared.spelled.Spelled.{Spelled}
 use Rattle.ct_naming.specs.Spelling.{AreNeighboursApart, AreSlotsApart, AreSpelled, IsSpelled, Spells, key, name_word, name_words, place_in, same_slot, slot_place, values}
 
-pub spell_start : (img : List ℕ) (dir : Inode) → Spells img dir 0 []
-spell_start img dir = record {
-  each = λ k d lt. absurd (omega arith);
-  low = λ k d lt. absurd (omega arith);
-  all = λ o lt s. absurd (omega arith);
-  rises = λ i j d lt below. absurd (omega arith);
-}
-
 -- one more slot, the first from an offset on
 pub spell_more : {img : List ℕ} {dir : Inode} {at : ℕ} {xs : List Spelled} → Spells img dir at xs → (s : Spelled) → IsSpelled img dir s → at ≤ s.offset
     → ((o : ℕ) → at ≤ o → o < s.offset → IsSlot (dir_of img dir) o → ⊥) → Spells img dir (s.offset + 256) (xs ++ s ∷ [])

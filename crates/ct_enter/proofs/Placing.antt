@@ -1,6 +1,6 @@
 -- Where a new object and its directory are, and how many pages were taken for them.
-use Rattle.std.proofs.Common.{◌≡◌, ℕ, ◌+◌, ◌/◌, ◌^◌, ◌<◌, List, length, Some, sym, ap, ◌∙◌, subst, arith}
-use Rattle.std.specs.Prelude.{max}
+use Rattle.std.proofs.Common.{◌≡◌, ℕ, Result, Ok, Err, ◌+◌, ◌/◌, ◌^◌, ◌<◌, List, length, Some, sym, ap, ◌∙◌, subst, arith}
+use Rattle.std.specs.Prelude.{OnOk, max}
 use Rattle.ct_base.specs.declared.inode.Inode.{Inode}
 use Rattle.ct_base.specs.Free.{HasFreePages}
 use Rattle.ct_base.specs.Inode.{IsNumber, IsPart, inode, part, part_bytes}
@@ -56,6 +56,11 @@ pub size_stays : (w mid : List ℕ) {dir : ℕ} → IsNumber (inode_count w) dir
 size_stays w mid {dir} number counted same =
     ap (λ (f : Object). f.size)
     (sym (objects-in (view mid) (inode_count mid) dir (record { from = number.from; to = omega (arith, number.to, counted) })) ∙ ap (λ (fs : ℕ → Object). fs dir) same ∙ objects-in (view w) (inode_count w) dir number)
+
+-- what follows from six facts where nothing failed
+pub ok_six : {T E A B C P Q R U : Type 0} (r : Result T E) → (A → B → C → P → Q → R → U) → OnOk r A → OnOk r B → OnOk r C → OnOk r P → OnOk r Q → OnOk r R → OnOk r U
+ok_six (Ok x) step a b c p q s = step a b c p q s
+ok_six (Err e) step a b c p q s = tt
 
 -- what was made at a spot is where the call puts it
 module _ {w : List ℕ} (new : List ℕ) {before : FreePages} (after : FreePages) {dir : ℕ} {f : Inode} {offset number : ℕ} {plan : CallPlan} (rest : IsAtRest w) (slot : IsNextSlot w dir f offset)

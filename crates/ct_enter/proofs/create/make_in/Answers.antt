@@ -4,14 +4,14 @@ use Rattle.ct_tree.specs.Checks.{names}
 use Rattle.ct_tree.specs.Resolve.{parent}
 use Rattle.ct_call.specs.Calls.{StandsFor, after, most_pairs}
 use Rattle.ct_call.specs.Placed.{Places}
-use Rattle.ct_call.proofs.Carried.{left_has, ok_four, ok_three, ok_two}
+use Rattle.ct_call.proofs.Carried.{left_has, ok_two}
 use Rattle.ct_call.proofs.Pairs.{least_pairs}
 use Rattle.ct_call.proofs.Resting.{does_over}
 use Rattle.ct_enter.specs.Entry.{with_node}
 use Rattle.ct_enter.specs.Makes.{make_op}
 use Rattle.ct_enter.proofs.Lasting.{call_phase, lands_pages}
 use Rattle.ct_enter.proofs.Named.{after_make}
-use Rattle.ct_enter.proofs.Placing.{places}
+use Rattle.ct_enter.proofs.Placing.{ok_six, places}
 use Rattle.ct_enter.proofs.Planned.{changes}
 use Rattle.ct_enter.proofs.create.make_in.Goals as goal
 
@@ -35,5 +35,5 @@ returns-clause-does g c t = let op = make_op c.args.kind c.args.path.now in does
 pub returns-clause-places : goal.returns-clause-places
 returns-clause-places g c = let e = c.carry_out-carried.ensures in let r = c.carry_out-carried.result in let f = c.in-Ok.ensures in
     left_has (λ old new. Places (g.D.Pm.words old) (g.D.Pm.words new) (make_op c.args.kind c.args.path.now)) (Some c.ended.result.0) c.carry_out-carried.result c.carry_out-carried.new.frames c.ended.result.1 c.mounted.view_is c.ended.ensures.done c.ended.ensures.left
-    (ok_four r (λ made moved taken free. places (g.D.Pm.words (device_behind r)) c.carry_out-carried.new.frames c.mounted.invariant.rest f.spot.next f.first f.plan f.fits c.args.kind c.args.path.now f.spot.parent c.in-Ok.found.0.name.now f.spot.last
-    c.number.ensures made.0 made.1.0 made.1.1 moved f.counted free taken) (ok_three r (λ slot object size. (slot, (object, size))) e.slot e.object e.size) e.moved e.taken c.ended.ensures.free)
+    (ok_six r (λ slot object size moved taken free. places (g.D.Pm.words (device_behind r)) c.carry_out-carried.new.frames c.mounted.invariant.rest f.spot.next f.first f.plan f.fits c.args.kind c.args.path.now f.spot.parent
+    c.in-Ok.found.0.name.now f.spot.last c.number.ensures slot object size moved f.counted free taken) e.slot e.object e.size e.moved e.taken c.ended.ensures.free)

@@ -23,7 +23,7 @@ use Rattle.ct_tree.specs.Resolve.{last_name, parent}
 use Rattle.ct_find.specs.Spots.{IsNextSlot}
 use Rattle.ct_find.proofs.Fitting.{entry_live}
 use Rattle.ct_find.specs.Entries.{IsEntryAt}
-use Rattle.ct_remove.specs.declared.find.Entry.{Entry}
+use Rattle.ct_find.specs.declared.entry.Entry.{Entry}
 use Rattle.ct_rename.specs.Forms.{IsForm}
 use Rattle.ct_rename.specs.Moves.{moved, replaced}
 use Rattle.ct_rename.specs.Renamed.{renamed, slot_for}

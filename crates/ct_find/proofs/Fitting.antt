@@ -11,8 +11,7 @@ use Rattle.ct_base.specs.Slots.{IsSlot}
 use Rattle.ct_base.specs.View.{view, inode_count}
 use Rattle.ct_dir.specs.Directory.{IsReadable, dir_of}
 use Rattle.ct_path.proofs.Answered.{has_names}
-use Rattle.ct_path.proofs.Sounds.{readable, is_live}
-use Rattle.ct_state.proofs.Bytes.{objects-in}
+use Rattle.ct_path.proofs.Sounds.{is_live}
 use Rattle.ct_tree.specs.Checks.{at, bad_path, first_of, has_entries, has_none, names, no_dir, no_file, no_node, refuse_if, Passes}
 use Rattle.ct_tree.specs.Lands.{files}
 use Rattle.ct_tree.specs.Resolve.{last_name, parent}
@@ -24,6 +23,7 @@ use Rattle.ct_tree.specs.declared.call.Refusal.TheVariants.{BadPath, IsRoot}
 use Rattle.ct_commit.specs.Rest.{IsAtRest, StandsFor}
 use Rattle.ct_find.specs.declared.kind.Kind.{Kind}
 use Rattle.ct_find.specs.declared.kind.Kind.TheVariants.{File as file, Directory as directory}
+use Rattle.ct_find.proofs.Living.{dir_is, readable_at}
 use Rattle.ct_find.proofs.Rooted.{root_entries}
 use Rattle.ct_find.specs.Entries.{IsEntryAt, IsFit, IsLeaf, StandsAt}
 use Rattle.ct_find.specs.Kinds.{leave_op}
@@ -110,11 +110,11 @@ module _ {w path : List ℕ} (rest : IsAtRest w) where
     pub entry_live : IsLive (view w) (inode_count w) e.number
     entry_live = is_live w rest.sound rest.head.inodes.1 e.number live
 
-    object_is : (d : Inode) → d ≡ inode (view w) e.number → dir_of w d ≡ files w e.number
-    object_is d is = ap (dir_of w) is ∙ sym (objects-in (view w) (inode_count w) e.number entry_live.number)
+    pub object_is : (d : Inode) → d ≡ inode (view w) e.number → dir_of w d ≡ files w e.number
+    object_is d is = dir_is rest entry_live (sym is)
 
     pub entry_readable : (d : Inode) → d ≡ inode (view w) e.number → d.kind ≡ 2 → IsReadable w d
-    entry_readable d is kind = readable w rest.sound rest.head.inodes.1 e.number live d is rest.tables kind
+    entry_readable d is kind = readable_at rest entry_live (sym is) kind
 
     -- the object decides
     pub fit_answer : {T : Type 0} (kind : Kind) (d : Inode) (r : Result T Refusal) → d ≡ inode (view w) e.number → IsFit (dir_of w d) kind r → (t : Tree) → StandsFor w t → StandsAt w path t e.number → Passes r (refusal t (leave_op kind path))

@@ -16,9 +16,6 @@ root_number rest = record { from = omega arith; to = omega (arith, rest.head.ino
 pub root_kind : {w : List ℕ} → IsAtRest w → (files w 1).kind ≡ 2
 root_kind {w} rest = ap (λ (f : Object). f.kind) (objects-in (view w) (inode_count w) 1 (root_number rest)) ∙ (rest.sound inodes 1 (root_number rest)).root refl
 
-pub no_two : {k : ℕ} → k ≡ 0 → k ≡ 2 → ⊥
-no_two none two = omega (arith, none, two)
-
 dir_of : (fs : ℕ → Object) (t : Tree) → (fs 1).kind ≡ 2 → Stands fs 1 t → (es : Entries) × (t ≡ Dir es)
 dir_of fs (File bytes) dir st = absurd (omega (arith, dir, st.kind))
 dir_of fs (Dir es) dir st = (es, refl)

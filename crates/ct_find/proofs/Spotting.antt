@@ -1,127 +1,95 @@
--- A path that names an entry of a directory, and what stands against a new one.
-use Rattle.std.proofs.Common.{◌≡◌, ◌≢◌, ℕ, zero, suc, ◌+◌, ◌*◌, ◌/◌, ◌%◌, ◌≤◌, inl, inr, true, List, [], ◌∷◌, Bor, Result, Ok, Err, Some, None, refl, sym, ap, ◌∙◌, subst, arith}
-use Rattle.std.specs.Prelude.{is_some, is_none, unwrap_or, ◌==◌}
-use Rattle.std.proofs.lemmas.Bool.{cases_Bool, false≢true}
+-- What stands against an entry at a path, and against a new one, once its directory was looked at.
+use Rattle.std.proofs.Common.{◌≡◌, ◌≢◌, ℕ, List, [], ◌∷◌, Result, Ok, Err, Some, None, refl, sym, ap, ◌∙◌}
+use Rattle.std.specs.Prelude.{is_none, is_some, unwrap_or}
+use Rattle.std.specs.Option.{ok_or}
 use Rattle.std.specs.declared.option.Option.{Option}
-use Rattle.ct_base.specs.declared.inode.Inode.{Inode}
-use Rattle.ct_base.specs.Inode.{inode, little}
-use Rattle.ct_base.specs.Named.{Named}
-use Rattle.ct_base.specs.Objects.{Object}
-use Rattle.ct_base.specs.Path.{is_name, names_of}
-use Rattle.ct_base.specs.Slots.{IsSlot, free_slot, free_slot_from, slot_name}
-use Rattle.ct_base.specs.View.{view, inode_count}
-use Rattle.ct_dir.specs.Directory.{IsReadable, dir_of}
-use Rattle.ct_path.specs.Resolves.{FindsParent, Splits}
-use Rattle.ct_path.specs.declared.fault.PathFault.{PathFault}
-use Rattle.ct_path.specs.declared.fault.PathFault.TheVariants.{BadPath}
-use Rattle.ct_path.proofs.Sounds.{readable, is_live}
-use Rattle.ct_state.proofs.Resolve.{has_lookup, stand_lookup}
-use Rattle.ct_tree.proofs.Ordered.{resolve_tree}
-use Rattle.ct_tree.specs.Checks.{exists_in, first_of, has_none, names, no_dir, refuse_if}
+use Rattle.ct_base.specs.Path.{names_of}
+use Rattle.ct_path.proofs.Answered.{has_names}
+use Rattle.ct_tree.proofs.Steps.{first_none}
+use Rattle.ct_tree.specs.Checks.{at, bad_path, exists, exists_in, first_of, has_none, no_dir, no_node, parent_at, refuse_if}
 use Rattle.ct_tree.specs.Entries.{lookup}
-use Rattle.ct_tree.specs.Lands.{files}
-use Rattle.ct_tree.specs.Resolve.{last_name, parent, resolve}
-use Rattle.ct_tree.specs.Stands.{HasName, Stands}
+use Rattle.ct_tree.specs.Resolve.{and_then, child, last_name, parent, resolve}
 use Rattle.ct_tree.specs.Step.{make_refusal}
-use Rattle.ct_tree.specs.Tree.{Tree, Dir, Entries}
+use Rattle.ct_tree.specs.Tree.{Tree, File, Dir}
 use Rattle.ct_tree.specs.declared.call.Refusal.{Refusal}
-use Rattle.ct_tree.specs.declared.call.Refusal.TheVariants.{Exists, BadPath as bad}
-use Rattle.ct_commit.specs.Rest.{IsAtRest, StandsFor}
-use Rattle.ct_find.specs.Spots.{IsNewName}
+use Rattle.ct_tree.specs.declared.call.Refusal.TheVariants.{BadPath as bad, Exists, NotFound}
+use Rattle.ct_find.proofs.Finding.{resolve_last}
+use Rattle.ct_find.specs.Places.{place_refusal}
 
--- the checks of a new node, by the names of its path
-abbrev checks : Option (List (List ℕ)) → Tree → Option Refusal
-checks o t =
-    first_of (
-    refuse_if (is_none o) bad ∷ refuse_if (has_none (unwrap_or o [])) Exists ∷ no_dir (resolve t (parent (unwrap_or o [])))
-    ∷ exists_in (resolve t (parent (unwrap_or o []))) (last_name (unwrap_or o [])) ∷ []
-    )
+-- ---- one step from the parent
 
-checks_pass : (o : Option (List (List ℕ))) (t : Tree) (es : Entries) → o ≢ None → unwrap_or o [] ≢ [] → resolve t (parent (unwrap_or o [])) ≡ Ok (Dir es) → lookup (last_name (unwrap_or o [])) es ≡ None → checks o t ≡ None
-checks_pass None t es some below found free = absurd (some refl)
-checks_pass (Some []) t es some below found free = absurd (below refl)
-checks_pass (Some (x ∷ xs)) t es some below found free = rw (found, free) refl
+-- a parent that is no directory decides
+no_child : (r : Result Tree Refusal) (x : List ℕ) {why : Refusal} → first_of (no_dir r ∷ []) ≡ Some why → first_of (no_node (and_then r (λ n. child n x)) ∷ []) ≡ Some why
+no_child (Ok (File bytes)) x is = is
+no_child (Ok (Dir es)) x is = absurd (cc)
+no_child (Err e) x is = is
 
-checks_exist : (o : Option (List (List ℕ))) (t : Tree) (es : Entries) → o ≢ None → unwrap_or o [] ≢ [] → resolve t (parent (unwrap_or o [])) ≡ Ok (Dir es) → is_some (lookup (last_name (unwrap_or o [])) es) ≡ true → checks o t ≡ Some Exists
-checks_exist None t es some below found there = absurd (some refl)
-checks_exist (Some []) t es some below found there = absurd (below refl)
-checks_exist (Some (x ∷ xs)) t es some below found there = rw (found, there) refl
+-- the name is there exactly where a node is
+abbrev exists_by : Result Tree Refusal → Option Refusal
+exists_by (Ok n) = Some Exists
+exists_by (Err e) = None
 
-some_found : (o : Option Tree) → o ≢ None → is_some o ≡ true
-some_found None ne = absurd (ne refl)
-some_found (Some n) ne = refl
+exists_child : (r : Result Tree Refusal) (x : List ℕ) → exists_in r x ≡ exists_by (and_then r (λ n. child n x))
+exists_child (Err e) x = refl
+exists_child (Ok (File bytes)) x = refl
+exists_child (Ok (Dir es)) x = there (lookup x es)
+  where
+    there : (o : Option Tree) → refuse_if (is_some o) Exists ≡ exists_by (ok_or o NotFound)
+    there None = refl
+    there (Some n) = refl
 
-never : (r : Result (ℕ × Bor (List ℕ)) PathFault) (x : ℕ × Bor (List ℕ)) → r ≡ Ok x → r ≡ Err BadPath → ⊥
-never r x ok err = absurd (cc)
+-- ---- one check more
 
--- the next slot begins at a multiple of 256, and lies below the size or at it
-free_bounds : (f : Object) (o n : ℕ) → o % 256 ≡ 0 → (free_slot_from f o n % 256 ≡ 0) × (free_slot_from f o n ≤ o + 256 * n)
-unfolding free_slot_from
-free_bounds f o zero aligned = (aligned, omega arith)
-free_bounds f o (suc n) aligned = elim (cases_Bool (little f.at o 256 == 0)) [
-  | inl here ↦ rw here (aligned, omega arith)
-  | inr used ↦ let later = free_bounds f (o + 256) n (omega arith) in rw used (later.0, omega (arith, later.1))
-]
+more : (p a b : Option Refusal) {why : Refusal} → first_of (p ∷ a ∷ []) ≡ Some why → first_of (p ∷ a ∷ b ∷ []) ≡ Some why
+more (Some r) a b is = is
+more None (Some r) b is = is
+more None None b is = absurd (cc)
 
-module _ {w path : List ℕ} {dir : ℕ} {name : Bor (List ℕ)} (rest : IsAtRest w) (splits : Splits (files w) path (Ok (dir, name))) where
-  path_is : names_of path ≢ None
-  path_is none = never (Ok (dir, name)) (dir, name) refl (splits.bad.1 none)
+last : (p a b : Option Refusal) → first_of (p ∷ a ∷ []) ≡ None → first_of (p ∷ a ∷ b ∷ []) ≡ b
+last (Some r) a b is = absurd (cc)
+last None (Some r) b is = absurd (cc)
+last None None None is = refl
+last None None (Some r) is = refl
 
-  finds : FindsParent (files w) (names path) (Ok (dir, name))
-  finds = splits.finds path_is
-
-  below_root : names path ≢ []
-  below_root none = absurd (no_name (sym (ap is_name (finds.name ∙ ap last_name none)) ∙ finds.valid))
+module _ (path : List ℕ) (below : path ≢ 47 ∷ []) (t : Tree) where
+  -- the root is not meant
+  make_is : make_refusal t path ≡ first_of (bad_path path ∷ no_dir (parent_at t path) ∷ exists t path ∷ [])
+  make_is = by (names_of path) (has_names path below) (no_dir (parent_at t path)) (exists t path)
     where
-      no_name : is_name [] ≡ true → ⊥
-      no_name is = absurd (false≢true is)
+      by : (o : Option (List (List ℕ))) → o ≢ Some [] → (a b : Option Refusal) → first_of (refuse_if (is_none o) bad ∷ refuse_if (has_none (unwrap_or o [])) Exists ∷ a ∷ b ∷ []) ≡ first_of (refuse_if (is_none o) bad ∷ a ∷ b ∷ [])
+      by None some a b = refl
+      by (Some []) some a b = absurd (some refl)
+      by (Some (x ∷ xs)) some a b = refl
 
-  live_dir : (files w dir).kind ≢ 0
-  live_dir none = omega (arith, none, finds.dir)
-
-  is_dir : (d : Inode) → d ≡ inode (view w) dir → dir_of w d ≡ files w dir
-  is_dir d is = ap (dir_of w) is ∙ sym (Rattle.ct_state.proofs.Bytes.objects-in (view w) (inode_count w) dir (is_live w rest.sound rest.head.inodes.1 dir live_dir).number)
-
-  kind_dir : (d : Inode) → d ≡ inode (view w) dir → d.kind ≡ 2
-  kind_dir d is = ap (λ (f : Object). f.kind) (is_dir d is) ∙ finds.dir
-
-  pub spot_readable : (d : Inode) → d ≡ inode (view w) dir → IsReadable w d
-  spot_readable d is = readable w rest.sound rest.head.inodes.1 dir live_dir d is rest.tables (kind_dir d is)
-
-  pub spot_none : (d : Inode) → d ≡ inode (view w) dir → (Named (dir_of w d) name.now → ⊥) → (t : Tree) → StandsFor w t → make_refusal t path ≡ None
-  spot_none d is none t st =
-      let p = finds.tree t st.tree st.stands in
-      let off : Named (files w dir) name.now → ⊥ = subst (λ f. Named f name.now → ⊥) (is_dir d is) none in
-      checks_pass (names_of path) t p.0 path_is below_root p.1 (ap (λ x. lookup x p.0) (sym finds.name) ∙ free (lookup name.now p.0) refl off p.2)
+  -- nothing can be there
+  pub no_entry : {why : Refusal} → place_refusal t path ≡ Some why → first_of (bad_path path ∷ no_node (at t path) ∷ []) ≡ Some why
+  no_entry {why} = by (names_of path) (has_names path below)
     where
-      free : (o : Option Tree) {es : Entries} → lookup name.now es ≡ o → (Named (files w dir) name.now → ⊥) → Stands (files w) dir (Dir es) → lookup name.now es ≡ None
-      free None e off st = e
-      free (Some child) {es = es} e off st = absurd (off (stand_lookup (files w) (files w dir) name.now child es st.1 e).slot)
+      by : (o : Option (List (List ℕ))) → o ≢ Some [] → first_of (refuse_if (is_none o) bad ∷ no_dir (resolve t (parent (unwrap_or o []))) ∷ []) ≡ Some why
+          → first_of (refuse_if (is_none o) bad ∷ no_node (resolve t (unwrap_or o [])) ∷ []) ≡ Some why
+      by None some is = is
+      by (Some []) some is = absurd (some refl)
+      by (Some (x ∷ xs)) some is = ap (λ r. first_of (no_node r ∷ [])) (resolve_last t x xs) ∙ no_child (resolve t (parent (x ∷ xs))) (last_name (x ∷ xs)) is
 
-  pub spot_exists : (d : Inode) (o : ℕ) → d ≡ inode (view w) dir → IsSlot (dir_of w d) o → slot_name (dir_of w d) o ≡ name.now → (t : Tree) → StandsFor w t → make_refusal t path ≡ Some Exists
-  spot_exists d o is slot named t st =
-      let p = finds.tree t st.tree st.stands in
-      let tree = resolve_tree (parent (names path)) t (Dir p.0) st.tree p.1 in
-      let at : IsSlot (files w dir) o = subst (λ f. IsSlot f o) (is_dir d is) slot in
-      let called : slot_name (files w dir) o ≡ name.now = ap (λ f. slot_name f o) (sym (is_dir d is)) ∙ named in
-      let has : HasName name.now p.0 = subst (λ x. HasName x p.0) called (p.2.0.names o at) in
-      checks_exist (names_of path) t p.0 path_is below_root p.1 (ap (λ x. is_some (lookup x p.0)) (sym finds.name) ∙ some_found (lookup name.now p.0) (has_lookup name.now p.0 tree has))
+  pub no_spot : {why : Refusal} → place_refusal t path ≡ Some why → make_refusal t path ≡ Some why
+  no_spot is = make_is ∙ more (bad_path path) (no_dir (parent_at t path)) (exists t path) is
 
-  pub spot_new : (d : Inode) (offset : ℕ) → d ≡ inode (view w) dir → (Named (dir_of w d) name.now → ⊥) → offset ≡ free_slot (dir_of w d) → IsNewName w path dir d offset name.now
-  spot_new d offset is none first =
-      let whole : d.size % 256 ≡ 0 = (spot_readable d is).placed.slots (kind_dir d is) in
-      let bounds = free_bounds (dir_of w d) 0 (d.size / 256) (omega arith) in
-      record {
-        parent = finds.leads;
-        last = finds.name;
-        lawful = finds.valid;
-        next = record {
-          live = is_live w rest.sound rest.head.inodes.1 dir live_dir;
-          is = sym is;
-          kind = kind_dir d is;
-          aligned = omega (arith, first, bounds.0);
-          within = omega (arith, first, bounds.1, whole);
-          first = first ∙ ap free_slot (is_dir d is);
-        };
-        fresh = λ k slot named. none (subst (λ f. Named f name.now) (sym (is_dir d is)) (record { offset = k; slot = slot; name = named }));
-      }
+  -- the directory is there
+  module _ (passes : place_refusal t path ≡ None) where
+    pub entry_gone : {why : Refusal} → at t path ≡ Err why → first_of (bad_path path ∷ no_node (at t path) ∷ []) ≡ Some why
+    entry_gone gone = ap (λ q. first_of (q ∷ no_node (at t path) ∷ [])) (first_none (bad_path path) (no_dir (parent_at t path) ∷ []) passes).0 ∙ ap (λ r. first_of (no_node r ∷ [])) gone
+
+    make_by : make_refusal t path ≡ exists_by (at t path)
+    make_by = make_is ∙ last (bad_path path) (no_dir (parent_at t path)) (exists t path) passes ∙ by (names_of path) (has_names path below) passes
+      where
+        by : (o : Option (List (List ℕ))) → o ≢ Some [] → first_of (refuse_if (is_none o) bad ∷ no_dir (resolve t (parent (unwrap_or o []))) ∷ []) ≡ None
+            → exists_in (resolve t (parent (unwrap_or o []))) (last_name (unwrap_or o [])) ≡ exists_by (resolve t (unwrap_or o []))
+        by None some is = absurd (cc)
+        by (Some []) some is = absurd (some refl)
+        by (Some (x ∷ xs)) some is = exists_child (resolve t (parent (x ∷ xs))) (last_name (x ∷ xs)) ∙ sym (ap exists_by (resolve_last t x xs))
+
+    pub spot_taken : {n : Tree} → at t path ≡ Ok n → make_refusal t path ≡ Some Exists
+    spot_taken there = make_by ∙ ap exists_by there
+
+    pub spot_free : {why : Refusal} → at t path ≡ Err why → make_refusal t path ≡ None
+    spot_free gone = make_by ∙ ap exists_by gone

@@ -1,3 +1,6 @@
 pub mod Entries
+pub mod Files
 pub mod Kinds
+pub mod Nodes
+pub mod Places
 pub mod Spots

@@ -1,12 +1,10 @@
 // The entry to which a path leads.
-ghost use Rattle.std.specs.Prelude.{◌≡◌, ◌≢◌, [], ◌∷◌, IfOk};
+ghost use Rattle.std.specs.Prelude.{◌≢◌, [], ◌∷◌, IfOk};
 ghost use Rattle.ct_tree.specs.Tree.{Tree};
 ghost use Rattle.ct_commit.specs.Rest.{IsAtRest, StandsFor};
 ghost use Rattle.ct_find.specs.Entries.{EntryAnswers, IsEntryAt};
 
-use ct_dir::find;
-use ct_inode::get;
-use ct_path::{parent_of, refusal_of};
+use crate::place::{Place, find_place};
 use ct_pm::Pm;
 use ct_tree::Refusal;
 
@@ -25,16 +23,12 @@ pub fn find_entry<D: Pm>(dev: &D, path: &[u8]) -> Result<Entry, Refusal>
     ensures answer { (t : Tree) → StandsFor (D.words dev.now) t → EntryAnswers (D.words dev.now) path.now t result }
     ensures entry { IfOk result (λ e. IsEntryAt (D.words dev.now) path.now e) }
 {
-    let (dir, name) = match parent_of(dev, path) {
-        Ok(found) => found,
-        Err(fault) => return Err(refusal_of(fault)),
+    let place = match find_place(dev, path) {
+        Ok(place) => place,
+        Err(refusal) => return Err(refusal),
     };
-    match find(dev, get(dev, dir), name) {
-        Some(found) => Ok(Entry {
-            dir,
-            offset: found.offset,
-            number: found.inode,
-        }),
-        None => Err(Refusal::NotFound),
+    match place {
+        Place::Taken(entry) => Ok(entry),
+        Place::Free(_) => Err(Refusal::NotFound),
     }
 }

@@ -1,14 +1,12 @@
 // Where a new entry goes.
-ghost use Rattle.std.specs.Prelude.{◌≡◌, ℕ, IfOk};
+ghost use Rattle.std.specs.Prelude.{IfOk};
 ghost use Rattle.ct_tree.specs.Tree.{Tree};
 ghost use Rattle.ct_commit.specs.Rest.{StandsFor};
 ghost use Rattle.ct_commit.specs.Rest.{IsAtRest};
 ghost use Rattle.ct_find.specs.Spots.{IsNewName, SpotAnswers};
 
+use crate::place::{Place, find_place};
 use ct_base::Inode;
-use ct_dir::{find, free_slot};
-use ct_inode::get;
-use ct_path::{parent_of, refusal_of};
 use ct_pm::Pm;
 use ct_tree::Refusal;
 
@@ -31,18 +29,12 @@ pub fn find_spot<'p, D: Pm>(dev: &D, path: &'p [u8]) -> Result<Spot<'p>, Refusal
     if path == b"/".as_slice() {
         return Err(Refusal::Exists);
     }
-    let (dir, name) = match parent_of(dev, path) {
-        Ok(found) => found,
-        Err(fault) => return Err(refusal_of(fault)),
+    let place = match find_place(dev, path) {
+        Ok(place) => place,
+        Err(refusal) => return Err(refusal),
     };
-    let inode = get(dev, dir);
-    match find(dev, inode, name) {
-        Some(_) => Err(Refusal::Exists),
-        None => Ok(Spot {
-            dir,
-            inode,
-            offset: free_slot(dev, inode),
-            name,
-        }),
+    match place {
+        Place::Taken(_) => Err(Refusal::Exists),
+        Place::Free(spot) => Ok(spot),
     }
 }

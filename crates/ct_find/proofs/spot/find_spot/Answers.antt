@@ -1,18 +1,21 @@
-use Rattle.ct_find.proofs.Spotting.{spot_readable, spot_none, spot_exists, spot_new}
+use Rattle.std.proofs.Common.{◌≢◌, [], ◌∷◌, subst, rules}
+use Rattle.ct_find.proofs.Spotting.{no_spot, spot_free, spot_taken}
+use Rattle.ct_find.specs.Places.{ShowsPlace}
 use Rattle.ct_find.proofs.spot.find_spot.Goals as goal
 
-pub find-requires : goal.find-requires
-find-requires g c = spot_readable c.requires c.in-Ok.ensures.splits c.get-inode.result c.get-inode.ensures
+pub returns-in-Err-clause-answer : goal.returns-in-Err-clause-answer
+returns-in-Err-clause-answer g c t st =
+    let below : c.args.path.now ≢ 47 ∷ [] = search rules in
+    no_spot c.args.path.now below t (c.in-Err.ensures.answer t st)
 
-pub free_slot-requires : goal.free_slot-requires
-free_slot-requires g c = spot_readable c.requires c.in-Ok.ensures.splits c.get-inode.result c.get-inode.ensures
+pub returns-in-Taken-clause-answer : goal.returns-in-Taken-clause-answer
+returns-in-Taken-clause-answer g c t st =
+    let below : c.args.path.now ≢ 47 ∷ [] = search rules in
+    let there = subst (ShowsPlace (g.D.Pm.words c.args.dev.now) c.args.path.now t) c.in-Taken.is (c.in-Ok.ensures.node t st) in
+    spot_taken c.args.path.now below t (c.in-Ok.ensures.answer t st) there.is
 
-pub returns-in-Some-clause-answer : goal.returns-in-Some-clause-answer
-returns-in-Some-clause-answer g c =
-    spot_exists c.requires c.in-Ok.ensures.splits c.get-inode.result c.in-Some.field-0.offset c.get-inode.ensures c.in-Some.ensures.found.slot c.in-Some.ensures.found.name
-
-pub returns-in-None-clause-answer : goal.returns-in-None-clause-answer
-returns-in-None-clause-answer g c = spot_none c.requires c.in-Ok.ensures.splits c.get-inode.result c.get-inode.ensures c.in-None.ensures.none
-
-pub returns-in-None-clause-spot : goal.returns-in-None-clause-spot
-returns-in-None-clause-spot g c = spot_new c.requires c.in-Ok.ensures.splits c.get-inode.result c.free_slot.result c.get-inode.ensures c.in-None.ensures.none c.free_slot.ensures
+pub returns-in-Free-clause-answer : goal.returns-in-Free-clause-answer
+returns-in-Free-clause-answer g c t st =
+    let below : c.args.path.now ≢ 47 ∷ [] = search rules in
+    let gone = subst (ShowsPlace (g.D.Pm.words c.args.dev.now) c.args.path.now t) c.in-Free.is (c.in-Ok.ensures.node t st) in
+    spot_free c.args.path.now below t (c.in-Ok.ensures.answer t st) gone

@@ -40,10 +40,10 @@ exists_child (Ok (Dir es)) x = there (lookup x es)
 
 -- ---- one check more
 
-more : (p a b : Option Refusal) {why : Refusal} → first_of (p ∷ a ∷ []) ≡ Some why → first_of (p ∷ a ∷ b ∷ []) ≡ Some why
-more (Some r) a b is = is
-more None (Some r) b is = is
-more None None b is = absurd (cc)
+pub one_more : (p a b : Option Refusal) {why : Refusal} → first_of (p ∷ a ∷ []) ≡ Some why → first_of (p ∷ a ∷ b ∷ []) ≡ Some why
+one_more (Some r) a b is = is
+one_more None (Some r) b is = is
+one_more None None b is = absurd (cc)
 
 last : (p a b : Option Refusal) → first_of (p ∷ a ∷ []) ≡ None → first_of (p ∷ a ∷ b ∷ []) ≡ b
 last (Some r) a b is = absurd (cc)
@@ -72,7 +72,7 @@ module _ (path : List ℕ) (below : path ≢ 47 ∷ []) (t : Tree) where
       by (Some (x ∷ xs)) some is = ap (λ r. first_of (no_node r ∷ [])) (resolve_last t x xs) ∙ no_child (resolve t (parent (x ∷ xs))) (last_name (x ∷ xs)) is
 
   pub no_spot : {why : Refusal} → place_refusal t path ≡ Some why → make_refusal t path ≡ Some why
-  no_spot is = make_is ∙ more (bad_path path) (no_dir (parent_at t path)) (exists t path) is
+  no_spot is = make_is ∙ one_more (bad_path path) (no_dir (parent_at t path)) (exists t path) is
 
   -- the directory is there
   module _ (passes : place_refusal t path ≡ None) where

@@ -19,7 +19,7 @@ abbrev pub IsPlaceOf : List ℕ → List ℕ → Place → Type 0
 IsPlaceOf img path (Taken entry) = IsEntryAt img path entry
 IsPlaceOf img path (Free spot) = IsNewName img path spot.dir spot.inode spot.offset spot.name.now
 
--- and the tree has a node at the path, or none by its last name
+-- in the tree the path leads to the node of the entry, or has no node by its last name
 abbrev pub ShowsPlace : List ℕ → List ℕ → Tree → Place → Type 0
 ShowsPlace img path t (Taken entry) = StandsAt img path t entry.number
 ShowsPlace img path t (Free spot) = at t path ≡ Err NotFound

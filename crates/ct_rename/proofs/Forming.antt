@@ -1,11 +1,10 @@
 -- An entry that takes the place of another.
-use Rattle.std.proofs.Common.{◌≡◌, ℕ, List, Result, Ok, sym, ap, ◌∙◌, subst, arith}
+use Rattle.std.proofs.Common.{◌≡◌, ℕ, List, Result, Ok, refl, sym, ap, ◌∙◌, subst, arith}
 use Rattle.ct_base.specs.declared.inode.Inode.{Inode}
 use Rattle.ct_base.specs.Inode.{inode}
 use Rattle.ct_base.specs.Objects.{Object}
-use Rattle.ct_base.specs.View.{view, inode_count}
+use Rattle.ct_base.specs.View.{view}
 use Rattle.ct_dir.specs.Directory.{dir_of}
-use Rattle.ct_state.proofs.Bytes.{objects-in}
 use Rattle.ct_tree.specs.Checks.{unlike, Passes}
 use Rattle.ct_tree.specs.Lands.{files}
 use Rattle.ct_tree.specs.Stands.{Stands}
@@ -14,7 +13,7 @@ use Rattle.ct_tree.specs.declared.call.Refusal.{Refusal}
 use Rattle.ct_commit.specs.Rest.{IsAtRest}
 use Rattle.ct_find.specs.declared.kind.Kind.{Kind}
 use Rattle.ct_find.specs.declared.kind.Kind.TheVariants.{File as file, Directory as directory}
-use Rattle.ct_find.proofs.Fitting.{entry_live, fit_dir, fit_file}
+use Rattle.ct_find.proofs.Fitting.{fit_dir, fit_file, object_is}
 use Rattle.ct_find.specs.Entries.{IsEntryAt, IsFit, StandsAt}
 use Rattle.ct_find.specs.declared.entry.Entry.{Entry}
 use Rattle.ct_rename.specs.Forms.{IsKindOf}
@@ -30,13 +29,10 @@ way_passes fs i j (Dir es) (Dir none) directory f r is kind st sm fit = fit_dir 
 way_passes fs i j (Dir es) (Dir (entry x n rest)) directory f r is kind st sm fit = fit_dir fs j (Dir (entry x n rest)) r sm fit
 
 module _ {w path to : List ℕ} {from there : Entry} (rest : IsAtRest w) (at_path : IsEntryAt w path from) (at_to : IsEntryAt w to there) where
-  pub from_kind : (files w from.number).kind ≡ (inode (view w) from.number).kind
-  from_kind = ap (λ (f : Object). f.kind) (objects-in (view w) (inode_count w) from.number (entry_live rest at_path).number)
-
-  gone_is : (d : Inode) → d ≡ inode (view w) there.number → dir_of w d ≡ files w there.number
-  gone_is d is = ap (dir_of w) is ∙ sym (objects-in (view w) (inode_count w) there.number (entry_live rest at_to).number)
+  from_kind : (files w from.number).kind ≡ (inode (view w) from.number).kind
+  from_kind = sym (ap (λ (f : Object). f.kind) (object_is rest at_path (inode (view w) from.number) refl))
 
   pub way_answer : {T : Type 0} (kind : Kind) (d : Inode) (r : Result T Refusal) → d ≡ inode (view w) there.number → IsKindOf (inode (view w) from.number) kind → IsFit (dir_of w d) kind r
       → (t : Tree) (s : StandsAt w path t from.number) (u : StandsAt w to t there.number) → Passes r (unlike (Ok s.node) (Ok u.node))
   way_answer kind d r is sort fit t s u =
-      way_passes (files w) from.number there.number s.node u.node kind (inode (view w) from.number) r from_kind sort s.stands u.stands (subst (λ f. IsFit f kind r) (gone_is d is) fit)
+      way_passes (files w) from.number there.number s.node u.node kind (inode (view w) from.number) r from_kind sort s.stands u.stands (subst (λ f. IsFit f kind r) (object_is rest at_to d is) fit)

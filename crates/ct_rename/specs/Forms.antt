@@ -14,11 +14,9 @@ use Rattle.ct_find.specs.declared.kind.Kind.{Kind}
 use Rattle.ct_find.specs.declared.kind.Kind.TheVariants.{File as file, Directory as directory}
 use Rattle.ct_call.specs.Calls.{StandsFor}
 use Rattle.ct_find.specs.Spots.{IsNewName}
-use Rattle.ct_find.specs.Entries.{IsEntryAt, IsLeaf, StandsAt}
+use Rattle.ct_find.specs.Entries.{IsEntryAt, IsLeaf}
 use Rattle.ct_rename.specs.declared.find.Form.{Form}
 use Rattle.ct_rename.specs.declared.find.Form.TheVariants.{Same, New, Over}
-use Rattle.ct_rename.specs.declared.find.Target.{Target}
-use Rattle.ct_rename.specs.declared.find.Target.TheVariants.{There, Free}
 
 -- two paths with these names, neither of which is /
 pub record AreBelow (path to : List ℕ) (xs ys : List (List ℕ)) : Type 0 where
@@ -31,16 +29,6 @@ pub record AreBelow (path to : List ℕ) (xs ys : List (List ℕ)) : Type 0 wher
 abbrev pub IsKindOf : Inode → Kind → Type 0
 IsKindOf f file = f.kind ≢ DIRECTORY_KIND
 IsKindOf f directory = f.kind ≡ DIRECTORY_KIND
-
--- an entry that the path leads to, or one that it may get
-abbrev pub IsTarget : List ℕ → List ℕ → Target → Type 0
-IsTarget img to (There entry) = IsEntryAt img to entry
-IsTarget img to (Free spot) = IsNewName img to spot.dir spot.inode spot.offset spot.name.now
-
--- and the tree has a node there, or none
-abbrev pub Meets : List ℕ → List ℕ → Tree → Target → Type 0
-Meets img to t (There entry) = StandsAt img to t entry.number
-Meets img to t (Free spot) = (r : Refusal) × (at t to ≡ Err r)
 
 -- The paths are equal. Or they differ, the first leads to an entry, and the other to none, or to one whose object has no slots.
 abbrev pub IsForm : List ℕ → List ℕ → List ℕ → Form → Type 0

@@ -1,34 +1,23 @@
 // Which form of a rename two paths ask for, and why there is none.
-ghost use Rattle.std.specs.Prelude.{◌≡◌, ◌≢◌, ℕ, ◌≤◌, [], ◌∷◌, Some, None, IfOk};
-ghost use Rattle.ct_tree.specs.Checks.{Passes, bad_path, first_of, is_root, names, no_dir, parent_at};
+ghost use Rattle.std.specs.Prelude.{ℕ, ◌≤◌, [], ◌∷◌, IfOk};
+ghost use Rattle.ct_tree.specs.Checks.{Passes, bad_path, first_of, is_root};
 ghost use Rattle.ct_tree.specs.Step.{refusal, rename};
 ghost use Rattle.ct_tree.specs.Tree.{Tree};
 ghost use Rattle.ct_tree.specs.declared.call.Refusal.TheVariants.{IsRoot as is_root_refused};
 ghost use Rattle.ct_base.specs.Inode.{inode};
-ghost use Rattle.ct_base.specs.Path.{names_of};
 ghost use Rattle.ct_base.specs.View.{view};
 ghost use Rattle.ct_base.specs.Walk.{AreTables};
 ghost use Rattle.ct_call.specs.Calls.{StandsFor};
 ghost use Rattle.ct_commit.specs.Rest.{IsAtRest};
-ghost use Rattle.ct_rename.specs.Forms.{AreBelow, IsForm, IsKindOf, IsTarget, Meets};
+ghost use Rattle.ct_rename.specs.Forms.{AreBelow, IsForm, IsKindOf};
 
 use crate::below::lies_below;
 use ct_base::{DIRECTORY_KIND, Inode, MOST_INODES};
-use ct_find::{Entry, Kind, Spot, check_kind, find_entry, find_spot};
+use ct_find::{Entry, Kind, Place, Spot, check_kind, find_entry, find_place};
 use ct_inode::get;
 use ct_path::{Names, parse};
 use ct_pm::Pm;
 use ct_tree::Refusal;
-
-/// What a new name meets.
-#[derive(Drop)]
-pub(crate) enum Target<'p> {
-    /// An entry has it.
-    There(Entry),
-
-    /// No entry has it, and this is where one goes.
-    Free(Spot<'p>),
-}
 
 /// A form of a rename.
 #[derive(Drop)]
@@ -78,24 +67,6 @@ fn check_paths<'p>(path: &'p [u8], to: &'p [u8]) -> Result<(Names<'p>, Names<'p>
     Ok((names, others))
 }
 
-// What a path other than `/` leads to, or where a new entry goes under it.
-fn find_target<'p, D: Pm>(dev: &D, to: &'p [u8]) -> Result<Target<'p>, Refusal>
-    requires rest { IsAtRest (D.words dev.now) }
-    requires good { names_of to.now ≢ None }
-    requires below { to.now ≢ 47 ∷ [] }
-    ensures answer { (t : Tree) → StandsFor (D.words dev.now) t → Passes result (no_dir (parent_at t to.now)) }
-    ensures target { IfOk result (λ target. IsTarget (D.words dev.now) to.now target) }
-    ensures node { (t : Tree) → StandsFor (D.words dev.now) t → IfOk result (Meets (D.words dev.now) to.now t) }
-{
-    match find_entry(dev, to) {
-        Ok(entry) => Ok(Target::There(entry)),
-        Err(_) => match find_spot(dev, to) {
-            Ok(spot) => Ok(Target::Free(spot)),
-            Err(refusal) => Err(refusal),
-        },
-    }
-}
-
 /// Which form of a rename two paths ask for, or why there is none.
 pub fn find_form<'p, D: Pm>(dev: &D, path: &[u8], to: &'p [u8]) -> Result<Form<'p>, Refusal>
     requires { IsAtRest (D.words dev.now) }
@@ -110,8 +81,8 @@ pub fn find_form<'p, D: Pm>(dev: &D, path: &[u8], to: &'p [u8]) -> Result<Form<'
         Ok(entry) => entry,
         Err(refusal) => return Err(refusal),
     };
-    let target = match find_target(dev, to) {
-        Ok(target) => target,
+    let place = match find_place(dev, to) {
+        Ok(place) => place,
         Err(refusal) => return Err(refusal),
     };
     if lies_below(names, others) {
@@ -120,9 +91,9 @@ pub fn find_form<'p, D: Pm>(dev: &D, path: &[u8], to: &'p [u8]) -> Result<Form<'
     if *path == *to {
         return Ok(Form::Same);
     }
-    match target {
-        Target::Free(spot) => Ok(Form::New(from, spot)),
-        Target::There(there) => {
+    match place {
+        Place::Free(spot) => Ok(Form::New(from, spot)),
+        Place::Taken(there) => {
             let gone = get(dev, there.number);
             match check_kind(dev, gone, kind_at(dev, from.number)) {
                 Ok(()) => Ok(Form::Over(from, there, gone)),

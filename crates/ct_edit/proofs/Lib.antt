@@ -1,4 +1,3 @@
-pub mod Finding
 pub mod Growths
 pub mod Longer
 pub mod Opened

@@ -32,7 +32,8 @@ use Rattle.ct_call.specs.Placed.{EntersAt, IsMoved, Places, Replaces}
 use Rattle.ct_call.specs.Plans.{Fits, Plans, level_of}
 use Rattle.ct_call.specs.declared.plan.CallPlan.{CallPlan}
 use Rattle.ct_edit.proofs.Told.{MakesBytes}
-use Rattle.ct_edit.specs.Found.{IsFileAt, IsNoFile}
+use Rattle.ct_find.proofs.Spotting.{one_more}
+use Rattle.ct_find.specs.Files.{IsFileAt, IsNoFile}
 use Rattle.ct_edit.specs.Planned.{CanPlan}
 use Rattle.ct_edit.specs.Edits.{IsReplaced, edit_op, task_change, task_end, task_of, task_plan}
 use Rattle.ct_edit.specs.declared.edit.Edit.{Edit}
@@ -40,11 +41,6 @@ use Rattle.ct_edit.specs.declared.edit.Edit.TheVariants.{Write, Fill, Append, Tr
 use Rattle.ct_edit.specs.declared.edit.Task.{Task}
 
 -- ---- refusals
-
-first_longer : (a b c : Option Refusal) (r : Refusal) → first_of (a ∷ b ∷ []) ≡ Some r → first_of (a ∷ b ∷ c ∷ []) ≡ Some r
-first_longer (Some x) b c r is = is
-first_longer None (Some y) c r is = is
-first_longer None None c r is = absurd (cc)
 
 one_check : (last : Option Refusal) → first_of (last ∷ []) ≡ last
 one_check None = refl
@@ -63,10 +59,10 @@ not_above n le = ap (λ b. refuse_if (not b) TooBig) (le-leb n file_limit le)
 
 -- no file is there
 pub no_file_refused : (path : List ℕ) (edit : Edit) (t : Tree) (r : Refusal) → IsNoFile t path r → refusal t (edit_op path edit) ≡ Some r
-no_file_refused path (Write off bytes) t r is = first_longer (bad_path path) (no_file (at t path)) _ r is
-no_file_refused path (Fill off len byte) t r is = first_longer (bad_path path) (no_file (at t path)) _ r is
-no_file_refused path (Append bytes) t r is = first_longer (bad_path path) (no_file (at t path)) _ r is
-no_file_refused path (Truncate len) t r is = first_longer (bad_path path) (no_file (at t path)) _ r is
+no_file_refused path (Write off bytes) t r is = one_more (bad_path path) (no_file (at t path)) _ is
+no_file_refused path (Fill off len byte) t r is = one_more (bad_path path) (no_file (at t path)) _ is
+no_file_refused path (Append bytes) t r is = one_more (bad_path path) (no_file (at t path)) _ is
+no_file_refused path (Truncate len) t r is = one_more (bad_path path) (no_file (at t path)) _ is
 
 -- where there is one its end decides
 end_decides : (path : List ℕ) (edit : Edit) (t : Tree) (was : List ℕ) → bad_path path ≡ None → at t path ≡ Ok (File was) → refusal t (edit_op path edit) ≡ above (task_end (task_of edit (length was))) file_limit TooBig

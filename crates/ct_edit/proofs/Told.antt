@@ -30,7 +30,7 @@ use Rattle.ct_call.proofs.Pairs.{least_pairs}
 use Rattle.ct_call.specs.Calls.{StandsFor, after, most_pairs}
 use Rattle.ct_commit.specs.Rest.{IsAtRest}
 use Rattle.ct_edit.specs.Changed.{Changes, ChangesOrNot}
-use Rattle.ct_edit.specs.Found.{IsFileAt}
+use Rattle.ct_find.specs.Files.{IsFileAt}
 
 -- What the call makes of the bytes of its file, in each tree.
 pub record MakesBytes (w path : List ℕ) (i : ℕ) (op : Op) (change : List ℕ → List ℕ) : Type 0 where

@@ -1,4 +1,3 @@
 pub mod Changed
 pub mod Edits
-pub mod Found
 pub mod Planned

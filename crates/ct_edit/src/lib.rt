@@ -6,7 +6,6 @@
 #![tactic(auto)]
 
 mod edit;
-mod file;
 mod plan;
 mod truncate;
 mod whole;

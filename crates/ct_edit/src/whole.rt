@@ -17,16 +17,16 @@ ghost use Rattle.ct_call.specs.Plans.{Fits, Plans, level_of};
 ghost use Rattle.ct_call.specs.Seen.{ready_in};
 ghost use Rattle.ct_edit.specs.Changed.{Changes, ChangesOrNot};
 ghost use Rattle.ct_edit.specs.Edits.{IsReplaced, edit_op, task_change, task_end, task_of as task_by, task_plan as plan_of_task};
-ghost use Rattle.ct_edit.specs.Found.{IsFileAt};
+ghost use Rattle.ct_find.specs.Files.{IsFileAt};
 ghost use Rattle.ct_edit.specs.Planned.{CanPlan};
 
 use crate::edit::{Edit, Task, task_of};
-use crate::file::find_file;
 use crate::plan::{truncate_plan, write_plan};
 use crate::truncate::resize_file;
 use crate::write::write_file;
 use ct_base::{FILE_KIND, Inode, MOST_CALL_PAIRS};
 use ct_call::{CallPlan, FsError, Mounted, State, check_space, ended, refused};
+use ct_find::find_file;
 use ct_frames::Frames;
 use ct_pm::Pm;
 use ct_record::Broken;

@@ -4,7 +4,6 @@ pub mod Standing
 pub mod Ruled
 pub mod Recording
 pub mod Carrying
-pub mod Finding
 pub mod Nothing
 pub mod Preparing
 pub mod Told

@@ -6,21 +6,19 @@ use Rattle.std.proofs.lemmas.Bool.{and_parts, cases_Bool, cases_eq, cond-false, 
 use Rattle.std.proofs.lemmas.Slice.Eq.{bytes_eq-Decides}
 use Rattle.ct_base.specs.declared.inode.Inode.{Inode}
 use Rattle.ct_base.specs.Exchange.{Apart}
-use Rattle.ct_base.specs.Inode.{inode, IsLive, IsNumber}
-use Rattle.ct_base.specs.Objects.{Object}
+use Rattle.ct_base.specs.Inode.{inode, IsLive}
 use Rattle.ct_base.specs.Plan.{Plan, exchange_plan, no_plan}
 use Rattle.ct_base.specs.Rules.{Owns, placed as placed_rule, slots, names as names_rule, named, reached}
 use Rattle.ct_base.specs.View.{view, inode_count}
 use Rattle.ct_base.specs.Wants.{missing}
 use Rattle.ct_plan.proofs.Plans.{few_exchange_missing}
 use Rattle.ct_plan.specs.Few.{few_exchange_wants}
-use Rattle.ct_state.proofs.Bytes.{objects-in}
 use Rattle.ct_state.proofs.Forests.{trees_of}
 use Rattle.ct_state.proofs.Renames.{leads_same}
 use Rattle.ct_state.proofs.Resolve.{leads_once}
 use Rattle.ct_tree.proofs.Again.{names_differ}
 use Rattle.ct_tree.proofs.Steps.{first_none, not_refused}
-use Rattle.ct_tree.specs.Checks.{above, are_ranges, at, bad_path, bad_range, first_of, names, overlap, refuse_if}
+use Rattle.ct_tree.specs.Checks.{above, are_ranges, at, bad_range, first_of, names, overlap, refuse_if}
 use Rattle.ct_tree.specs.Content.{bytes_in}
 use Rattle.ct_tree.specs.Lands.{files}
 use Rattle.ct_tree.specs.Need.{IsAt}
@@ -34,9 +32,12 @@ use Rattle.ct_commit.specs.Rest.{IsAtRest}
 use Rattle.ct_call.specs.Plans.{IsGrowth, Plans, level_of}
 use Rattle.ct_call.specs.declared.plan.CallPlan.{CallPlan}
 use Rattle.ct_call.specs.declared.plan.Growth.TheVariants.{Stays}
-use Rattle.ct_exchange.specs.Found.{IsFileAt, are_whole, number_checks}
+use Rattle.ct_find.proofs.Both.{both_there}
+use Rattle.ct_find.proofs.Living.{size_is}
+use Rattle.ct_find.proofs.Rooted.{root_kind}
+use Rattle.ct_find.specs.Files.{IsFileAt}
+use Rattle.ct_exchange.specs.Numbers.{are_whole, number_checks}
 use Rattle.ct_exchange.specs.Ranges.{CanExchange, wants_of}
-use Rattle.ct_exchange.proofs.Finding.{both_files}
 
 -- the numbers that pass are those of whole pages within both sizes
 pub record AreWhole (size off other_size other_off len : ℕ) : Type 0 where
@@ -78,7 +79,7 @@ same_apart : (same : Bool) (off other_off len : ℕ) → same ≡ true → refus
 same_apart true off other_off len is passes = apart_by off other_off len (not_refused (nat_lt off (other_off + len) && nat_lt other_off (off + len)) Overlap passes)
 same_apart false off other_off len is passes = absurd (cc)
 
-module _ {w : List ℕ} (rest : IsAtRest w) (path other : List ℕ) (i j : ℕ) (first : IsFileAt w path i) (second : IsFileAt w other j) (off other_off len : ℕ) where
+module _ {w : List ℕ} (rest : IsAtRest w) (path other : List ℕ) (i j : ℕ) (first : IsFileAt w path i (inode (view w) i)) (second : IsFileAt w other j (inode (view w) j)) (off other_off len : ℕ) where
   abbrev f : Inode
   f = inode (view w) i
 
@@ -90,10 +91,9 @@ module _ {w : List ℕ} (rest : IsAtRest w) (path other : List ℕ) (i j : ℕ) 
   refusal_by_numbers t st =
       let one = first.node t st in
       let two = second.node t st in
-      let size : length one.0 ≡ f.size = sym one.2.size ∙ ap (λ (o : Object). o.size) (objects-in (view w) (inode_count w) i first.live.number) in
-      let other_size : length two.0 ≡ g.size = sym two.2.size ∙ ap (λ (o : Object). o.size) (objects-in (view w) (inode_count w) j second.live.number) in
-      let more = bad_range t path off other other_off len ∷ overlap path off other other_off len ∷ above len exchange_limit TooLong ∷ [] in
-      both_files (bad_path path) (bad_path other) (at t path) (at t other) (bad_range t path off other other_off len ∷ overlap path off other other_off len ∷ above len exchange_limit TooLong ∷ []) one.0 two.0 first.valid second.valid one.1 two.1
+      let size : length one.0 ≡ f.size = sym one.2.size ∙ size_is rest first.live first.is in
+      let other_size : length two.0 ≡ g.size = sym two.2.size ∙ size_is rest second.live second.is in
+      both_there path other t (bad_range t path off other other_off len ∷ overlap path off other other_off len ∷ above len exchange_limit TooLong ∷ []) first.valid second.valid one.1 two.1
       ∙ ap (λ r. first_of (refuse_if (not (are_ranges (bytes_in r) off (bytes_in (at t other)) other_off len)) BadRange ∷ overlap path off other other_off len ∷ above len exchange_limit TooLong ∷ [])) one.1
       ∙ ap (λ r. first_of (refuse_if (not (are_ranges one.0 off (bytes_in r) other_off len)) BadRange ∷ overlap path off other other_off len ∷ above len exchange_limit TooLong ∷ [])) two.1
       ∙ ap (λ k. first_of (refuse_if (not (are_whole k off (length two.0) other_off len)) BadRange ∷ overlap path off other other_off len ∷ above len exchange_limit TooLong ∷ [])) size
@@ -109,17 +109,12 @@ module _ {w : List ℕ} (rest : IsAtRest w) (path other : List ℕ) (i j : ℕ) 
     | inl is ↦ (bytes_eq-Decides path other).0 is
     | inr differ ↦
         let s = rest.sound in
-        let trees = trees_of (s slots) (s names_rule) (s named) (s reached) (root_dir) in
+        let trees = trees_of (s slots) (s names_rule) (s named) (s reached) (root_kind rest) in
         let leads_other = subst (λ (k : ℕ). IsAt w other k) (sym same) second.leads in
         absurd (names_differ path other first.valid second.valid (λ e. Rattle.std.proofs.lemmas.Bool.false≢true (sym differ ∙ (bytes_eq-Decides path other).1 e)) (leads_same trees i (names path) (names other) first.leads leads_other))
   ]
-    where
-      root_dir : (files w 1).kind ≡ 2
-      root_dir =
-          let number : IsNumber (inode_count w) 1 = record { from = omega arith; to = omega (arith, rest.head.inodes.0) } in
-          ap (λ (o : Object). o.kind) (objects-in (view w) (inode_count w) 1 number) ∙ (rest.sound Rattle.ct_base.specs.Rules.inodes 1 number).root refl
 
-  owner : (k : ℕ) → IsFileAt w path k ⊎ IsFileAt w other k → 1 ≤ (inode (view w) k).size → Owns (view w) (inode_count w) k
+  owner : (k : ℕ) → IsFileAt w path k (inode (view w) k) ⊎ IsFileAt w other k (inode (view w) k) → 1 ≤ (inode (view w) k).size → Owns (view w) (inode_count w) k
   owner k found some =
       let live : IsLive (view w) (inode_count w) k = elim found [ inl a ↦ a.live | inr a ↦ a.live ] in
       record { live = live; level = elim (rest.sound placed_rule k live).place [ inl none ↦ absurd (omega (arith, none.size, some)) | inr room ↦ room.part.level ] }
@@ -148,8 +143,8 @@ module _ {w : List ℕ} (rest : IsAtRest w) (path other : List ℕ) (i j : ℕ) 
         record {
           first = owner i (inl first) (omega (arith, n.fits, some));
           second = owner j (inr second) (omega (arith, n.other_fits, some));
-          file = first.file;
-          other_file = second.file;
+          file = first.kind;
+          other_file = second.kind;
           some = some;
           start = n.start;
           other_start = n.other_start;

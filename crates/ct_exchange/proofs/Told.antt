@@ -21,14 +21,15 @@ use Rattle.ct_tree.specs.Need.{HasNeed, IsAt}
 use Rattle.ct_tree.specs.Resolve.{IsDir, put}
 use Rattle.ct_tree.specs.Stands.{Stands}
 use Rattle.ct_tree.specs.Step.{Op, answered, effect, exchange, exchanged, refusal}
-use Rattle.ct_tree.specs.Tree.{Tree, File, Dir}
+use Rattle.ct_tree.specs.Tree.{Tree, File}
 use Rattle.ct_commit.proofs.Landed.{lands_on}
 use Rattle.ct_call.specs.Calls.{StandsFor, after, most_pairs}
 use Rattle.ct_call.specs.Carried.{Reaches}
 use Rattle.ct_commit.specs.Rest.{IsAtRest}
 use Rattle.ct_call.specs.Placed.{Places}
 use Rattle.ct_exchange.specs.declared.plan.Ranges.{Ranges}
-use Rattle.ct_exchange.specs.Found.{IsFileAt}
+use Rattle.ct_find.proofs.Rooted.{root_entries}
+use Rattle.ct_find.specs.Files.{IsFileAt}
 use Rattle.ct_exchange.specs.Ranges.{AreApart, first_page, second_page}
 use Rattle.ct_exchange.specs.Swapped.{HasSwapped, SwapsOrNot, SwapsWalks, files_after}
 use Rattle.ct_exchange.proofs.Carrying.{placed, space}
@@ -46,19 +47,9 @@ done_tree : (t : Tree) (path other : List ℕ) (off other_off len : ℕ) → ref
 done_tree t path other off other_off len allowed = sym (ap (λ r. (answered r t (effect t (exchange path off other other_off len))).1) allowed)
 
 is_dir : {w : List ℕ} (rest : IsAtRest w) (t : Tree) → StandsFor w t → IsDir t
-is_dir {w} rest t st = of t st.stands
-  where
-    number : Rattle.ct_base.specs.Inode.IsNumber (inode_count w) 1
-    number = record { from = omega arith; to = omega (arith, rest.head.inodes.0) }
+is_dir rest t st = subst IsDir (sym (root_entries rest t st).1) tt
 
-    root : (files w 1).kind ≡ 2
-    root = ap (λ (o : Rattle.ct_base.specs.Objects.Object). o.kind) (Rattle.ct_state.proofs.Bytes.objects-in (view w) (inode_count w) 1 number) ∙ (rest.sound Rattle.ct_base.specs.Rules.inodes 1 number).root refl
-
-    of : (t : Tree) → Stands (files w) 1 t → IsDir t
-    of (File bytes) is = absurd (omega (arith, is.kind, root))
-    of (Dir es) is = tt
-
-module _ {w : List ℕ} (rest : IsAtRest w) (path other : List ℕ) (r : Ranges) (first : IsFileAt w path r.first) (second : IsFileAt w other r.second) where
+module _ {w : List ℕ} (rest : IsAtRest w) (path other : List ℕ) (r : Ranges) (first : IsFileAt w path r.first (inode (view w) r.first)) (second : IsFileAt w other r.second (inode (view w) r.second)) where
   module _ (t : Tree) (st : StandsFor w t) (allowed : refusal t (swap_op path other r) ≡ None) where
     -- where nothing is exchanged, the tree is the same
     none_tree : r.len ≡ 0 → t ≡ after t (swap_op path other r)

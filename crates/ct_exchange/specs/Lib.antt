@@ -1,3 +1,3 @@
-pub mod Found
+pub mod Numbers
 pub mod Ranges
 pub mod Swapped

@@ -2,7 +2,8 @@
 ghost use Rattle.std.specs.Prelude.{◌≡◌, ◌≢◌, ℕ, ◌+◌, ◌≤◌, length, Some, Err, IsSomeAnd, IfOk, OnOk};
 ghost use Rattle.ct_base.specs.Causes.{HasCause};
 ghost use Rattle.ct_base.specs.Free.{HasFreePages};
-ghost use Rattle.ct_base.specs.View.{inode_count};
+ghost use Rattle.ct_base.specs.Inode.{inode};
+ghost use Rattle.ct_base.specs.View.{inode_count, view};
 ghost use Rattle.ct_base.specs.Wants.{missing};
 ghost use Rattle.ct_pm.specs.Phase.{Phase};
 ghost use Rattle.ct_record.specs.Seen.{device_behind};
@@ -13,16 +14,17 @@ ghost use Rattle.ct_tree.specs.Tree.{Tree};
 ghost use Rattle.ct_call.specs.Answers.{IsPrepared};
 ghost use Rattle.ct_call.specs.Calls.{Does, StandsFor};
 ghost use Rattle.ct_commit.specs.Rest.{IsMounted};
+ghost use Rattle.ct_find.specs.Files.{IsFileAt};
 ghost use Rattle.ct_call.specs.Placed.{Places};
 ghost use Rattle.ct_call.specs.Seen.{ready_in};
-ghost use Rattle.ct_exchange.specs.Found.{IsFileAt};
 ghost use Rattle.ct_exchange.specs.Ranges.{AreApart, wants_of};
 ghost use Rattle.ct_exchange.specs.Swapped.{HasSwapped, SwapsOrNot, SwapsWalks, files_after};
 
-use crate::check::{check_numbers, two_files};
+use crate::check::check_numbers;
 use crate::plan::Ranges;
 use ct_base::MOST_EXCHANGE_PAIRS;
 use ct_call::{CallPlan, FsError, Mounted, State, check_space, ended, make_pages, refused};
+use ct_find::find_files;
 use ct_frames::Frames;
 use ct_inode::get;
 use ct_pm::Pm;
@@ -42,8 +44,8 @@ fn prepare<D: Pm>(
 ) -> Result<(Ranges, CallPlan), Refusal>
     requires mounted { IsMounted (D.words dev.now) (D.told dev.now) frames.now }
     ensures answer { (t : Tree) → StandsFor (D.words dev.now) t → IsPrepared (D.words dev.now) t (exchange path.now off other.now other_off len) result }
-    ensures first { IfOk result (λ found. IsFileAt (D.words dev.now) path.now found.0.first) }
-    ensures second { IfOk result (λ found. IsFileAt (D.words dev.now) other.now found.0.second) }
+    ensures first { IfOk result (λ found. IsFileAt (D.words dev.now) path.now found.0.first (inode (view (D.words dev.now)) found.0.first)) }
+    ensures second { IfOk result (λ found. IsFileAt (D.words dev.now) other.now found.0.second (inode (view (D.words dev.now)) found.0.second)) }
     ensures numbers { IfOk result (λ found. found.0 ≡ record { first = found.0.first; off = off; second = found.0.second; other_off = other_off; len = len }) }
     ensures can { IfOk result (λ found. 1 ≤ found.0.len → AreApart (D.words dev.now) found.0) }
     ensures wants { IfOk result (λ found. found.1.wants ≡ wants_of (D.words dev.now) found.0) }
@@ -51,7 +53,7 @@ fn prepare<D: Pm>(
     ensures need { IfOk result (λ found. (need : ℕ) → HasNeed (D.words dev.now) (exchange path.now off other.now other_off len) need → need ≡ missing (D.words dev.now) found.1.wants) }
     ensures counted { OnOk result ((count : ℕ) → HasFreePages (D.words dev.now) count → count ≡ length frames.now.free) }
 {
-    let (first, second) = two_files(dev, path, other)?;
+    let (first, second) = find_files(dev, path, other)?;
     let size = get(dev, first).size;
     let other_size = get(dev, second).size;
     check_numbers(path, size, off, other, other_size, other_off, len)?;

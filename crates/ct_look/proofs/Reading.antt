@@ -17,16 +17,15 @@ use Rattle.ct_state.proofs.Carry.{view-seen}
 use Rattle.ct_state.proofs.Whole.{seen_from}
 use Rattle.ct_tree.specs.Checks.{above, at, bad_path, first_of, no_file}
 use Rattle.ct_tree.specs.Content.{bytes_in, range}
-use Rattle.ct_tree.specs.Lands.{files}
-use Rattle.ct_tree.specs.Stands.{Stands}
 use Rattle.ct_tree.specs.Step.{read, read_limit, refusal}
 use Rattle.ct_tree.specs.Tree.{Tree, File, Dir}
 use Rattle.ct_tree.specs.declared.call.Refusal.{Refusal}
 use Rattle.ct_tree.specs.declared.call.Refusal.TheVariants.{IsDir as is_dir, TooLong as too_long}
 use Rattle.ct_look.proofs.Filling.{fills_none}
-use Rattle.ct_look.proofs.Looking.{dir_is, kind_is, placed_at, size_is}
+use Rattle.ct_find.proofs.Leading.{dir_node, file_node}
+use Rattle.ct_find.proofs.Living.{dir_is, placed_at, size_is}
+use Rattle.ct_find.specs.Nodes.{IsNodeAt}
 use Rattle.ct_look.specs.Content.{Fills, IsRead}
-use Rattle.ct_look.specs.Looks.{IsFound}
 
 -- bytes of a list that were put at the front of a buffer
 front_is : (bytes old new : List ℕ) (off len count : ℕ) (b : ℕ → ℕ) → count ≡ min len (length bytes - off) → count ≤ length old → Fills old new 0 count b → ((k : ℕ) → k < count → b k ≡ get_or bytes (off + k) 0)
@@ -52,13 +51,13 @@ above_not n limit r le = rw (le-leb n limit le) refl
 above_is : (n limit : ℕ) (r : Refusal) → limit < n → above n limit r ≡ Some r
 above_is n limit r lt = let off : nat_le n limit ≡ false = false_from_ne_true _ (λ t. omega (arith, leb-true n limit t, lt)) in rw off refl
 
-module _ {w : List ℕ} {path : List ℕ} {d : Inode} (rest : IsAtRest w) (found : IsFound w path d) (off len : ℕ) where
+module _ {w path : List ℕ} {i : ℕ} {d : Inode} (rest : IsAtRest w) (found : IsNodeAt w path i d) (off len : ℕ) where
   pub has_pages : HasPages w
   has_pages = (rest.tables.some, rest.tables.there)
 
   -- a file with bytes lies in a partition
   pub room_of : off < d.size → HasRoom d
-  room_of lt = elim (placed_at rest found).place [ inl n ↦ absurd (omega (arith, n.size, lt)) | inr r ↦ r ]
+  room_of lt = elim (placed_at rest found.live found.is).place [ inl n ↦ absurd (omega (arith, n.size, lt)) | inr r ↦ r ]
 
   pub content_high : off < d.size → d.base + d.size ≤ 2 ^ 48
   content_high lt = let r = room_of lt in omega (arith, part_high (part d) r.part, r.size)
@@ -71,22 +70,25 @@ module _ {w : List ℕ} {path : List ℕ} {d : Inode} (rest : IsAtRest w) (found
 
   module _ (t : Tree) (s : StandsFor w t) where
     pub read_dir : d.kind ≡ 2 → refusal t (read path off len) ≡ Some is_dir
-    read_dir dir = let node = found.node t s in on node.0 node.1 node.2
-      where
-        on : (n : Tree) → at t path ≡ Ok n → Stands (files w) found.number n → refusal t (read path off len) ≡ Some is_dir
-        on (File bytes) at_is st = absurd (omega (arith, st.kind, kind_is rest found, dir))
-        on (Dir es) at_is st = checked_read t (Dir es) path off len found.valid at_is
+    read_dir dir = let n = dir_node rest found t s dir in checked_read t (Dir n.0) path off len found.valid n.1
 
     pub read_long : d.kind ≢ 2 → read_limit < len → refusal t (read path off len) ≡ Some too_long
-    read_long other long = let node = found.node t s in on node.0 node.1 node.2
-      where
-        on : (n : Tree) → at t path ≡ Ok n → Stands (files w) found.number n → refusal t (read path off len) ≡ Some too_long
-        on (File bytes) at_is st = checked_read t (File bytes) path off len found.valid at_is ∙ ap (λ o. first_of (o ∷ [])) (above_is len read_limit too_long long)
-        on (Dir es) at_is st = absurd (other (sym (kind_is rest found) ∙ st.0.kind))
+    read_long other long =
+        let n = file_node rest found t s other in
+        checked_read t (File n.0) path off len found.valid n.1 ∙ ap (λ o. first_of (o ∷ [])) (above_is len read_limit too_long long)
 
     pub read_file : d.kind ≢ 2 → len ≤ read_limit → (old new : List ℕ) (count : ℕ) → count ≤ length old → count ≡ min len (d.size - off) → (off < d.size → Fills old new 0 count (λ k. byte w (d.base + off + k))) → (d.size ≤ off → new ≡ old)
         → (refusal t (read path off len) ≡ None) × IsRead (range (bytes_in (at t path)) off len) old new count
-    read_file other short old new count room is puts none = let node = found.node t s in on node.0 node.1 node.2
+    read_file other short old new count room is puts none =
+        let n = file_node rest found t s other in
+        let size = size_is rest found.live found.is in (
+          checked_read t (File n.0) path off len found.valid n.1 ∙ ap (λ o. first_of (o ∷ [])) (above_not len read_limit too_long short),
+          subst (λ n. IsRead (range (bytes_in n) off len) old new count) (sym n.1) (front_is n.0 old new off len count b (is ∙ ap (λ n. min len (n - off)) (sym size ∙ n.2.size)) room filled (λ k lt.
+              let less : off < d.size = omega (arith, is, lt) in
+              let in_size : off + k < d.size = omega (arith, is, lt) in
+              let within : off + k < length n.0 = omega (arith, in_size, size, n.2.size) in
+              ap (byte w) (omega arith) ∙ sym (content_byte less (off + k) in_size) ∙ ap (λ (f : Object). f.at (off + k)) (dir_is rest found.live found.is) ∙ n.2.all (off + k) within)),
+        )
       where
         b : ℕ → ℕ
         b k = byte w (d.base + off + k)
@@ -96,14 +98,3 @@ module _ {w : List ℕ} {path : List ℕ} {d : Inode} (rest : IsAtRest w) (found
           | inl less ↦ puts less
           | inr past ↦ subst (λ list. Fills old list 0 count b) (sym (none past)) (fills_none old 0 count b (omega (arith, is, past)))
         ]
-
-        on : (n : Tree) → at t path ≡ Ok n → Stands (files w) found.number n → (refusal t (read path off len) ≡ None) × IsRead (range (bytes_in (at t path)) off len) old new count
-        on (File bytes) at_is st = (
-          checked_read t (File bytes) path off len found.valid at_is ∙ ap (λ o. first_of (o ∷ [])) (above_not len read_limit too_long short),
-          subst (λ n. IsRead (range (bytes_in n) off len) old new count) (sym at_is) (front_is bytes old new off len count b (is ∙ ap (λ n. min len (n - off)) (sym (size_is rest found) ∙ st.size)) room filled (λ k lt.
-              let less : off < d.size = omega (arith, is, lt) in
-              let in_size : off + k < d.size = omega (arith, is, lt) in
-              let within : off + k < length bytes = omega (arith, in_size, size_is rest found, st.size) in
-              ap (byte w) (omega arith) ∙ sym (content_byte less (off + k) in_size) ∙ ap (λ (f : Object). f.at (off + k)) (dir_is rest found) ∙ st.all (off + k) within)),
-        )
-        on (Dir es) at_is st = absurd (other (sym (kind_is rest found) ∙ st.0.kind))

@@ -14,14 +14,13 @@ use Rattle.ct_walk.proofs.Entries.{some_page-is, some_page-none}
 use Rattle.ct_walk.specs.Pages.{some_page}
 use Rattle.ct_tree.specs.Checks.{at, no_file}
 use Rattle.ct_tree.specs.Content.{bytes_in}
-use Rattle.ct_tree.specs.Lands.{files}
-use Rattle.ct_tree.specs.Stands.{Stands}
 use Rattle.ct_tree.specs.Step.{locate, refusal}
-use Rattle.ct_tree.specs.Tree.{Tree, File, Dir}
-use Rattle.ct_look.proofs.Looking.{checked_by, dir_is, kind_is, size_is}
+use Rattle.ct_tree.specs.Tree.{Tree, File}
+use Rattle.ct_find.proofs.Leading.{checked_by, file_node}
+use Rattle.ct_find.proofs.Living.{dir_is, size_is}
+use Rattle.ct_find.specs.Nodes.{IsNodeAt}
 use Rattle.ct_look.proofs.Reading.{content_byte, room_of}
 use Rattle.ct_look.specs.Holes.{AreUnmapped, IsHole, IsMappedAt, IsNextData, IsNextMapped}
-use Rattle.ct_look.specs.Looks.{IsFound}
 
 -- a step that gives no page
 pub absent : (found : Option ℕ) (page : ℕ) → found ≡ some_page page → ((x : ℕ) → found ≡ Some x → ⊥) → None ≡ some_page page
@@ -85,21 +84,19 @@ module _ (img : List ℕ) (a : ℕ) where
 pub hole_byte : (img : List ℕ) (v : ℕ) → walk img v ≡ 0 → byte img v ≡ 0
 hole_byte img v none = ap (λ page. byte_in img page (v % 4096)) none
 
-module _ {w : List ℕ} {path : List ℕ} {d : Inode} (rest : IsAtRest w) (found : IsFound w path d) (off : ℕ) where
+module _ {w path : List ℕ} {i : ℕ} {d : Inode} (rest : IsAtRest w) (found : IsNodeAt w path i d) (off : ℕ) where
   -- what comes next of a file's data, by the bytes of its addresses
   pub data_file : d.kind ≢ 2 → (next : Option ℕ)
       → ((bytes : List ℕ) → d.size ≡ length bytes → ((k : ℕ) → off < d.size → k < d.size → slice_index bytes k ≡ byte w (d.base + k)) → IsNextData bytes off next)
       → (t : Tree) → StandsFor w t → (refusal t (locate path) ≡ None) × IsNextData (bytes_in (at t path)) off next
-  data_file other next is t s = let node = found.node t s in on node.0 node.1 node.2
-    where
-      on : (n : Tree) → at t path ≡ Ok n → Stands (files w) found.number n → (refusal t (locate path) ≡ None) × IsNextData (bytes_in (at t path)) off next
-      on (File bytes) at_is st = (
-        checked_by no_file t (File bytes) path found.valid at_is,
-        subst (λ r. IsNextData (bytes_in r) off next) (sym at_is) (is bytes (sym (size_is rest found) ∙ st.size) (λ k less in_size.
-            let within : k < length bytes = omega (arith, in_size, size_is rest found, st.size) in
-            sym (st.all k within) ∙ sym (ap (λ (f : Object). f.at k) (dir_is rest found)) ∙ content_byte rest found off 0 less k in_size)),
+  data_file other next is t s =
+      let n = file_node rest found t s other in
+      let size = size_is rest found.live found.is in (
+        checked_by no_file t path (Ok (File n.0)) found.valid n.1,
+        subst (λ r. IsNextData (bytes_in r) off next) (sym n.1) (is n.0 (sym size ∙ n.2.size) (λ k less in_size.
+            let within : k < length n.0 = omega (arith, in_size, size, n.2.size) in
+            sym (n.2.all k within) ∙ sym (ap (λ (f : Object). f.at k) (dir_is rest found.live found.is)) ∙ content_byte rest found off 0 less k in_size)),
       )
-      on (Dir es) at_is st = absurd (other (sym (kind_is rest found) ∙ st.0.kind))
 
   -- past the end there are none
   pub data_past : d.kind ≢ 2 → d.size ≤ off → (t : Tree) → StandsFor w t → (refusal t (locate path) ≡ None) × IsNextData (bytes_in (at t path)) off None
@@ -131,6 +128,6 @@ module _ {w : List ℕ} {path : List ℕ} {d : Inode} (rest : IsAtRest w) (found
   -- and the file has a page there
   pub data_mapped : (v next : ℕ) → next ≡ v - d.base → IsNextMapped w (d.base + off) (d.base + d.size) v → IsMappedAt w path next
   data_mapped v next is mapped =
-      let base : (inode (view w) found.number).base ≡ d.base = ap (λ (f : Inode). f.base) (sym found.is) in
-      let sum : (inode (view w) found.number).base + next ≡ v = omega (arith, base, is, mapped.later) in
-      (found.number, found.leads, λ none. mapped.mapped (ap (walk w) (sym sum) ∙ none))
+      let base : (inode (view w) i).base ≡ d.base = ap (λ (f : Inode). f.base) found.is in
+      let sum : (inode (view w) i).base + next ≡ v = omega (arith, base, is, mapped.later) in
+      (i, found.leads, λ none. mapped.mapped (ap (walk w) (sym sum) ∙ none))

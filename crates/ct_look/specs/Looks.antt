@@ -1,23 +1,17 @@
 -- What the calls that only look answer, by the words and the tree for which they stand.
-use Rattle.std.specs.Prelude.{◌≡◌, ◌⊎◌, ℕ, ◌^◌, ◌<◌, ◌≤◌, Bool, true, false, if◌then◌else◌, List, [], ◌∷◌, Option, Some, None, Ok, Err}
+use Rattle.std.specs.Prelude.{◌≡◌, ℕ, ◌^◌, ◌<◌, ◌≤◌, Bool, true, false, if◌then◌else◌, List, [], ◌∷◌, Option, Some, None, Ok, Err}
 use Rattle.std.specs.declared.result.Result.{Result}
 use Rattle.std.specs.declared.cmp.Ordering.{Ordering}
 use Rattle.std.specs.declared.cmp.Ordering.TheVariants.{Less, Equal, Greater}
-use Rattle.ct_base.specs.declared.inode.Inode.{Inode}
 use Rattle.ct_base.specs.declared.layout.TheConstants.{ROOT_PAGE}
-use Rattle.ct_base.specs.Inode.{IsLive, inode}
+use Rattle.ct_base.specs.Inode.{inode}
 use Rattle.ct_base.specs.Path.{name_cmp}
-use Rattle.ct_base.specs.View.{view, inode_count}
+use Rattle.ct_base.specs.View.{view}
 use Rattle.ct_base.specs.Walk.{page_count}
-use Rattle.ct_tree.specs.Checks.{at, bad_path}
-use Rattle.ct_tree.specs.Lands.{files}
 use Rattle.ct_tree.specs.Need.{IsAt}
-use Rattle.ct_tree.specs.Stands.{Stands}
-use Rattle.ct_tree.specs.Tree.{Tree}
 use Rattle.ct_tree.specs.declared.call.Refusal.{Refusal}
 use Rattle.ct_tree.specs.declared.call.Reply.{Reply}
 use Rattle.ct_tree.specs.declared.call.Reply.TheVariants.{Done, Data, File as FileOf, Dir as DirOf, Names, At, Refused as refused, BadLine}
-use Rattle.ct_call.specs.Calls.{StandsFor}
 use Rattle.ct_call.specs.declared.mount.FsError.{FsError}
 use Rattle.ct_call.specs.declared.mount.FsError.TheVariants.{Dead, Refused, Fault}
 use Rattle.ct_look.specs.declared.seen.Stat.{Stat}
@@ -60,24 +54,6 @@ IsLook check IsRight (Err Fault) = ⊥
 abbrev pub answer_of : {T : Type 0} → Result T Refusal → Result T FsError
 answer_of (Ok value) = Ok value
 answer_of (Err r) = Err (Refused r)
-
--- the inode of the path's object, which stands for a node of each tree that the words stand for
-pub record IsFound (img : List ℕ) (path : List ℕ) (found : Inode) : Type 0 where
-  pub number : ℕ
-  pub live : IsLive (view img) (inode_count img) number
-  pub is : found ≡ inode (view img) number
-  pub leads : IsAt img path number
-  pub valid : bad_path path ≡ None
-  pub node : (t : Tree) → StandsFor img t → (n : Tree) × (at t path ≡ Ok n) × Stands (files img) number n
-
--- the path leads nowhere in the tree, for this reason
-abbrev pub LeadsNowhere : Tree → List ℕ → Refusal → Type 0
-LeadsNowhere t path r = (bad_path path ≡ Some r) ⊎ ((bad_path path ≡ None) × (at t path ≡ Err r))
-
--- the inode to which the path leads, or why it leads nowhere
-abbrev pub IsInodeAt : List ℕ → List ℕ → Result Inode Refusal → Type 0
-IsInodeAt img path (Ok found) = IsFound img path found
-IsInodeAt img path (Err r) = (t : Tree) → StandsFor img t → LeadsNowhere t path r
 
 -- the base and the level of the inode to which the path leads
 abbrev pub IsPlaceAt : List ℕ → List ℕ → ℕ × ℕ → Type 0

@@ -11,9 +11,9 @@ ghost use Rattle.ct_tree.specs.Content.{bytes_in};
 ghost use Rattle.ct_tree.specs.Step.{locate as locate_call, refusal};
 ghost use Rattle.ct_tree.specs.Tree.{Tree};
 
-use crate::look::inode_at;
 use crate::peek::{SECOND_SPAN, THIRD_SPAN, step};
 use ct_base::{ADDRESS_END, DIRECTORY_KIND, PAGE_BYTES, ROOT_PAGE, SLOT_SPAN, TABLE_ENTRIES};
+use ct_find::find_node;
 use ct_pm::Pm;
 use ct_tree::Refusal;
 
@@ -64,7 +64,7 @@ pub fn data_at<D: Pm>(dev: &D, path: &[u8], off: u64) -> Result<Option<u64>, Ref
         → IsLook (refusal t (locate_call path.now)) (λ found. IsNextData (bytes_in (at t path.now)) off found) (answer_of result) }
     ensures mapped { IfOk result (λ found. IfSome found (λ next. IsMappedAt (D.words dev.now) path.now next)) }
 {
-    let inode = inode_at(dev, path)?;
+    let (_, inode) = find_node(dev, path)?;
     if inode.kind == DIRECTORY_KIND {
         return Err(Refusal::IsDir);
     }

@@ -2,7 +2,6 @@
 ghost use Rattle.std.specs.Prelude.{◌≡◌, ◌≢◌, ◌≤◌, ◌↔◌, Option, Some, Err, IsNone, MatchOption, IfOk, OnErr, length};
 ghost use Rattle.std.specs.Option.{option_map};
 ghost use Rattle.ct_dir.specs.Directory.{name_in};
-ghost use Rattle.ct_path.specs.Resolves.{refusal_of};
 ghost use Rattle.ct_tree.specs.Checks.{at};
 ghost use Rattle.ct_tree.specs.Content.{bytes_in, range};
 ghost use Rattle.ct_tree.specs.Runs.{MayLieAt};
@@ -10,17 +9,16 @@ ghost use Rattle.ct_tree.specs.Step.{list as list_call, listed_in, locate as loc
 ghost use Rattle.ct_tree.specs.Tree.{Tree};
 ghost use Rattle.ct_call.specs.Calls.{StandsFor};
 ghost use Rattle.ct_look.specs.Content.{IsRead};
-ghost use Rattle.ct_look.specs.Looks.{IsInodeAt, IsLook, IsPlaceAt, answer_of, next_name, stat_answer};
+ghost use Rattle.ct_look.specs.Looks.{IsLook, IsPlaceAt, answer_of, next_name, stat_answer};
 ghost use Rattle.ct_call.specs.Mounted.{Volume};
 ghost use Rattle.ct_commit.specs.Rest.{IsAtRest};
 
 use crate::content::put_content;
 use crate::seen::Stat;
-use ct_base::{DIRECTORY_KIND, Inode, NameBuf};
+use ct_base::{DIRECTORY_KIND, NameBuf};
 use ct_call::FsError;
 use ct_dir::{entries, name_at, next_after};
-use ct_inode::get;
-use ct_path::{refusal_of, resolve};
+use ct_find::find_node;
 use ct_pm::Pm;
 use ct_tree::Refusal;
 use ct_tree::checks::READ_BYTES;
@@ -35,23 +33,12 @@ pub fn answer_of<T>(seen: Result<T, Refusal>) -> Result<T, FsError>
     }
 }
 
-// The inode to which a path leads.
-pub(crate) fn inode_at<D: Pm>(dev: &D, path: &[u8]) -> Result<Inode, Refusal>
-    requires { IsAtRest (D.words dev.now) }
-    ensures { IsInodeAt (D.words dev.now) path.now result }
-{
-    match resolve(dev, path) {
-        Ok(number) => Ok(get(dev, number)),
-        Err(fault) => Err(refusal_of(fault)),
-    }
-}
-
 /// What is told of the object at a path.
 pub fn stat_at<D: Pm>(dev: &D, path: &[u8]) -> Result<Stat, Refusal>
     requires { IsAtRest (D.words dev.now) }
     ensures { (t : Tree) → StandsFor (D.words dev.now) t → answer_of result ≡ stat_answer (step t (stat_call path.now)).0 }
 {
-    let inode = inode_at(dev, path)?;
+    let (_, inode) = find_node(dev, path)?;
     if inode.kind == DIRECTORY_KIND {
         return Ok(Stat::Dir {
             count: entries(dev, inode),
@@ -72,7 +59,7 @@ pub fn next_at<D: Pm>(
         (λ found. option_map (λ name. name.items) found ≡ next_name (name_in after.entry) (listed_in (at t path.now)))
         (answer_of result) }
 {
-    let inode = inode_at(dev, path)?;
+    let (_, inode) = find_node(dev, path)?;
     if inode.kind != DIRECTORY_KIND {
         return Err(Refusal::NotDir);
     }
@@ -90,7 +77,7 @@ pub fn locate_at<D: Pm>(dev: &D, path: &[u8]) -> Result<(u64, u32), Refusal>
         (λ place. IsPlaceAt (D.words dev.now) path.now place × MayLieAt (size_at t path.now) place.0 place.1)
         (answer_of result) }
 {
-    let inode = inode_at(dev, path)?;
+    let (_, inode) = find_node(dev, path)?;
     if inode.kind == DIRECTORY_KIND {
         return Err(Refusal::IsDir);
     }
@@ -112,7 +99,7 @@ pub fn read_at<D: Pm>(
     ensures bound { IfOk result (λ count. count ≤ length buf.old) }
     ensures kept { OnErr result (buf.new ≡ buf.old) }
 {
-    let inode = inode_at(dev, path)?;
+    let (_, inode) = find_node(dev, path)?;
     if inode.kind == DIRECTORY_KIND {
         return Err(Refusal::IsDir);
     }

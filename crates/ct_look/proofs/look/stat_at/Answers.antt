@@ -1,8 +1,8 @@
-use Rattle.ct_look.proofs.Looking.{readable_at, stat_dir, stat_file}
+use Rattle.ct_look.proofs.Looking.{dir_readable, stat_dir, stat_file}
 use Rattle.ct_look.proofs.look.stat_at.Goals as goal
 
 pub entries-requires : goal.entries-requires
-entries-requires g c = readable_at c.requires c.in_ok-inode.ensures c.if-inode-eq-DIRECTORY_KIND.true
+entries-requires g c = dir_readable c.requires c.in_ok-inode.ensures c.if-inode-eq-DIRECTORY_KIND.true
 
 pub returns-then-inode-eq-DIRECTORY_KIND : goal.returns-then-inode-eq-DIRECTORY_KIND
 returns-then-inode-eq-DIRECTORY_KIND g c = λ t s. stat_dir c.requires c.in_ok-inode.ensures t s c.if-inode-eq-DIRECTORY_KIND.true c.entries.result c.entries.ensures

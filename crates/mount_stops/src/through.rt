@@ -12,7 +12,7 @@ ghost use Rattle.ct_tree.specs.Lands.{Lands};
 ghost use Rattle.ct_tree.specs.Ordered.{IsTree};
 ghost use Rattle.ct_tree.specs.Tree.{Tree};
 ghost use Rattle.pm_trace.specs.Meaning.{faults_of, history, words_of};
-ghost use Rattle.mount_stops.specs.Stops.{faults_before, trace_after};
+ghost use Rattle.mount_stops.specs.Stops.{GoesOn, IsStopped, Through, faults_before, trace_after};
 
 use ct_call::{Mounted, NoMount, Why};
 use ct_mount::recover;
@@ -34,6 +34,7 @@ fn mount_once(alloc: Global, dev: TracePm, passes: u64) -> Result<TracePm, NoMou
     ensures head { IfOk result (λ left. HasHead (words_of dev)) }
     ensures judged { IfErr result (λ no_mount. Judges (words_of dev) (Some no_mount.why)) }
     ensures alive { IfErr result (λ no_mount. no_mount.why ≢ Why.Fault) }
+    ensures goes_on { GoesOn (history dev) (history (trace_after result)) }
     ensures images { (image : List ℕ) → IsAllowed (history (trace_after result)) image → SameState (words_of dev) image }
 {
     match recover(alloc, FusePm::new(dev, passes)) {
@@ -58,6 +59,7 @@ fn stop_at(alloc: Global, dev: TracePm, stop: &Stop) -> Result<TracePm, NoMount<
     ensures state { IfOk result (λ left. SameState (words_of dev) (words_of left)) }
     ensures settled { IfOk result (λ left. IsSettled (history left)) }
     ensures faults { IfOk result (λ left. faults_of left ≡ 0) }
+    ensures stopped { IfOk result (λ left. IsStopped stop.now (history dev) (history left)) }
     ensures judged { IfErr result (λ no_mount. Judges (words_of dev) (Some no_mount.why)) }
     ensures alive { IfErr result (λ no_mount. no_mount.why ≢ Why.Fault) }
     ensures images { IfErr result (λ no_mount. (image : List ℕ) → IsAllowed (history no_mount.dev) image → SameState (words_of dev) image) }
@@ -92,6 +94,9 @@ pub fn mount_through(
     // What is mounted holds the tree on which the words at entry land.
     ensures holds { IfOk result (λ made. (t : Tree) → IsTree t → Lands (words_of dev) t
         → Holds (inode_count (words_of dev)) t (words_of made.dev) (Some (history made.dev))) }
+
+    // Each stop is made: the mount there goes on, and what its crash leaves is what the stop has chosen.
+    ensures through { IfOk result (λ made. Through stops.now (history dev) (history made.dev)) }
 
     // Whatever a crash may leave now is of the state of the words at entry, and lands where they land.
     ensures images { (image : List ℕ) → IsAllowed (history (image_dev result)) image → SameState (words_of dev) image }

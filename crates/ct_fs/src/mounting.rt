@@ -7,11 +7,11 @@ ghost use Rattle.ct_base.specs.View.{inode_count};
 ghost use Rattle.ct_call.specs.Calls.{Keeps};
 ghost use Rattle.ct_call.specs.NotMounted.{why_not};
 ghost use Rattle.ct_call.specs.declared.mount.Why.{Why};
-ghost use Rattle.ct_fs.specs.Mounts.{dev_after};
+ghost use Rattle.ct_fs.specs.Mounts.{dev_after, fs_dev};
 ghost use Rattle.ct_mount.specs.Mounting.{IsSettledFrom, Judges, Recovers};
 ghost use Rattle.ct_pm.specs.Device.{LeavesOnly, MakesOnly, NothingPending};
 ghost use Rattle.ct_pm.specs.Images.{IsAllowed, IsSettled};
-ghost use Rattle.mount_stops.specs.Stops.{faults_before};
+ghost use Rattle.mount_stops.specs.Stops.{Through, faults_before};
 ghost use Rattle.pm_trace.specs.Meaning.{faults_of, history, words_of};
 ghost use Rattle.ct_recover.specs.Settling.{Settling};
 ghost use Rattle.ct_tree.specs.Lands.{Lands};
@@ -84,6 +84,9 @@ pub fn mount_through(
 
     // The file system has the tree on which the words at entry land.
     ensures keeps { IfOk result (λ fs. (t : Tree) → IsTree t → Lands (words_of dev) t → Keeps (inode_count (words_of dev)) fs.state t) }
+
+    // Each stop is made: the mount there goes on, and what its crash leaves is what the stop has chosen.
+    ensures through { IfOk result (λ fs. Through stops.now (history dev) (history (fs_dev fs))) }
 
     // Whatever a crash may leave now is of the state of the words at entry, and lands where they land.
     ensures images { (image : List ℕ) → IsAllowed (history (dev_after result)) image → SameState (words_of dev) image }

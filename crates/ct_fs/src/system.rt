@@ -1,5 +1,5 @@
 // A mounted file system.
-ghost use Rattle.std.specs.Prelude.{◌≡◌, Some, None, IfOk, IsSome};
+ghost use Rattle.std.specs.Prelude.{◌≡◌, Some, None, IfErr, IfOk, IsSome};
 ghost use Rattle.ct_commit.specs.Rest.{IsMounted};
 
 use ct_call::{Failed, Mounted, State};
@@ -47,9 +47,13 @@ impl<D: Pm> Fs<D> {
 }
 
 impl<D: Pm> Fs<D> {
-    /// The device at rest and its free pages, or the device alone where a call met a fault of it.
+    ghost use Rattle.ct_fs.specs.Mounts.{mounts, device_of};
+
+    /// The device of the mount, at rest, and its free pages, or the device alone where a call met a fault of it.
     pub fn into_parts(self) -> Result<(D, Frames), D>
-        ensures { IfOk result (λ parts. IsMounted (D.words parts.0) (D.told parts.0) parts.1) }
+        ensures rest { IfOk result (λ parts. IsMounted (D.words parts.0) (D.told parts.0) parts.1) }
+        ensures ready { IfOk result (λ parts. mounts self ≡ Some (record { dev = parts.0; frames = parts.1 })) }
+        ensures dead { IfErr result (λ dev. (mounts self ≡ None) × (device_of self ≡ Some dev)) }
     {
         let Fs { state } = self;
         match state {

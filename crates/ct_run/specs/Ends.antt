@@ -1,5 +1,5 @@
 -- The ways in which a run may end, and what it leaves.
-use Rattle.std.specs.Prelude.{◌≡◌, ◌⊎◌, ℕ, ◌<◌, ◌≤◌, List, [], length, Ok, Err}
+use Rattle.std.specs.Prelude.{◌≡◌, ◌⊎◌, ℕ, ◌+◌, ◌≤◌, List, [], length, Ok, Err}
 use Rattle.std.specs.Io.KnownBytes.{Consumes, IsAtEnd}
 use Rattle.std.specs.declared.option.Option.{Option}
 use Rattle.std.specs.declared.result.Result.{Result}
@@ -87,7 +87,7 @@ Leaves c t Done given rest old new from to =
 Leaves c t DeviceFault given rest old new from to = IsReadWhole given rest × StoppedBy Device c t (items given) old new from to
 Leaves c t WriteFault given rest old new from to = IsReadWhole given rest × StoppedBy Output c t (items given) old new from to
 Leaves c t ReadFault given rest old new from to = (length given ≤ SCRIPT_BYTES) × Waits c t given old new from to
-Leaves c t TooLong given rest old new from to = (SCRIPT_BYTES < length given) × Waits c t given old new from to
+Leaves c t TooLong given rest old new from to = (length given ≡ SCRIPT_BYTES + 1) × Waits c t given old new from to
 Leaves c t Usage given rest old new from to = ⊥
 Leaves c t (NotImage rule) given rest old new from to = ⊥
 Leaves c t NoMemory given rest old new from to = ⊥

@@ -20,7 +20,7 @@ pub enum Status {
     WriteFault,
     NoMemory,
 
-    /// The script has more than 16,777,216 bytes.
+    /// The script has more than 16,777,216 bytes, or a path of a dump more than 4,096.
     TooLong,
 }
 

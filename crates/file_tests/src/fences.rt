@@ -1,5 +1,7 @@
 // What a fence asks of a file, and in which order.
-use crate::fixture::{asked, device, fails_at, is_written, put, synced_device, write};
+use crate::fixture::{
+    asked, device, fails_at, flush, is_written, put, store, synced_device, write,
+};
 use crate::recording::{Manner, Request};
 use ct_pm::{Pm, PmFault};
 use std::test::Fail;
@@ -11,7 +13,7 @@ fn a_fence_writes_each_run_of_marked_lines_and_then_syncs(rt: HostRuntime) -> Re
     let (mut dev, file) = synced_device(alloc, fails_at(alloc, &[])?)?;
     put(&mut dev, 130..131, 1)?;
     put(&mut dev, 1..3, 2)?;
-    dev.store(8 * 4, 3)?;
+    store(&mut dev, 4, 3)?;
     put(&mut dev, 62..66, 4)?;
     put(&mut dev, 0..1, 5)?;
     dev.fence()?;
@@ -20,7 +22,7 @@ fn a_fence_writes_each_run_of_marked_lines_and_then_syncs(rt: HostRuntime) -> Re
         found.as_slice(),
         [write(0, 3), write(62, 4), write(130, 1), Request::Sync].as_slice()
     );
-    dev.flush(4)?;
+    flush(&mut dev, 4)?;
     dev.fence()?;
     dev.fence()?;
     let found = asked(alloc, &file)?;
@@ -49,11 +51,11 @@ fn the_first_fence_syncs_before_it_writes(rt: HostRuntime) -> Result<(), Fail> {
 fn a_fence_with_nothing_marked_writes_nothing(rt: HostRuntime) -> Result<(), Fail> {
     let alloc = rt.alloc();
     let (mut dev, file) = device(alloc, fails_at(alloc, &[])?)?;
-    dev.store(0, 0)?;
-    dev.flush(0)?;
+    store(&mut dev, 0, 0)?;
+    flush(&mut dev, 0)?;
     dev.fence()?;
     dev.fence()?;
-    dev.store(0, 1)?;
+    store(&mut dev, 0, 1)?;
     dev.fence()?;
     let found = asked(alloc, &file)?;
     assert_eq!(rt; found.as_slice(), [Request::Sync].as_slice());

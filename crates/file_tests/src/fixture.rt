@@ -59,13 +59,27 @@ pub fn synced_device(
     Ok((dev, file))
 }
 
+/// Stores a value at the first word of a line.
+pub fn store<D: Pm>(dev: &mut D, line: u64, value: u64) -> Result<(), PmFault> {
+    if line / 64 < dev.pages() {
+        dev.store(8 * line, value)?;
+    }
+    Ok(())
+}
+
+/// Flushes a line.
+pub fn flush<D: Pm>(dev: &mut D, line: u64) -> Result<(), PmFault> {
+    if line / 64 < dev.pages() {
+        dev.flush(line)?;
+    }
+    Ok(())
+}
+
 /// Stores a value at the first word of each line, and flushes it.
 pub fn put<D: Pm>(dev: &mut D, lines: Range<u64>, value: u64) -> Result<(), PmFault> {
     for line in lines {
-        if line / 64 < dev.pages() {
-            dev.store(8 * line, value)?;
-            dev.flush(line)?;
-        }
+        store(dev, line, value)?;
+        flush(dev, line)?;
     }
     Ok(())
 }

@@ -1,7 +1,7 @@
 // Lines that are again as the file has them: a fence passes over them.
 ghost use Rattle.std.specs.Prelude.{◌^◌, ◌<◌};
 
-use crate::fixture::{PAGES, asked, fails_at, is_written, put, synced_device, write};
+use crate::fixture::{PAGES, asked, fails_at, is_written, put, store, synced_device, write};
 use crate::recording::{RecordingFile, Request};
 use ct_base::PAGE_WORDS;
 use ct_pm::{Pm, PmFault};
@@ -14,7 +14,7 @@ fn lines_that_are_as_the_file_has_them_are_not_written(rt: HostRuntime) -> Resul
     let (mut dev, file) = synced_device(alloc, fails_at(alloc, &[])?)?;
     put(&mut dev, 1..4, 5)?;
     put(&mut dev, 2..3, 0)?;
-    dev.store(8 * 6, 7)?;
+    store(&mut dev, 6, 7)?;
     dev.fence()?;
     let found = asked(alloc, &file)?;
     assert_eq!(rt;
@@ -38,7 +38,7 @@ fn after_a_failed_fence_no_marked_line_is_passed_over(rt: HostRuntime) -> Result
     for number in 0..2 {
         let (mut dev, file) = synced_device(alloc, fails_at(alloc, &[number])?)?;
         put(&mut dev, 1..2, 5)?;
-        dev.store(8 * 4, 5)?;
+        store(&mut dev, 4, 5)?;
         assert_eq!(rt; dev.fence(), Err(PmFault), "request {number}");
         let _ = asked(alloc, &file)?;
         put(&mut dev, 1..2, 0)?;

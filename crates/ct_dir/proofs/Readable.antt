@@ -1,5 +1,5 @@
 -- Directories of an image on which the rules of placement and of slots hold.
-use Rattle.std.proofs.Common.{◌≡◌, ◌≢◌, ℕ, ◌+◌, ◌-◌, ◌/◌, ◌%◌, ◌^◌, ◌<◌, ◌≤◌, List, sym, ap, subst, ◌∙◌, inl, inr, arith}
+use Rattle.std.proofs.Common.{◌≡◌, ◌≢◌, ℕ, List, sym, ap, subst, inl, inr, arith}
 use Rattle.ct_base.specs.Inode.{inode, IsNumber}
 use Rattle.ct_base.specs.Objects.{Object, objects}
 use Rattle.ct_base.specs.Rules.{AreEntries, ArePlaced, IsEntry}

@@ -12,7 +12,7 @@ mod order;
 mod slot;
 mod slots;
 
-pub use change::{clear, set};
-pub use count::{entries, free_slot};
+pub use change::{clear, set, set_changed};
+pub use count::{entries, first_slot, free_slot};
 pub use lookup::{Found, NameSlot, find, name_at, spot};
 pub use order::next_after;

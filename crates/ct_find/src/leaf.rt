@@ -15,7 +15,7 @@ ghost use Rattle.ct_find.specs.Kinds.{leave_op};
 use crate::entry::{Entry, find_entry};
 use crate::kind::Kind;
 use ct_base::{DIRECTORY_KIND, Inode};
-use ct_dir::next_after;
+use ct_dir::first_slot;
 use ct_inode::get;
 use ct_pm::Pm;
 use ct_tree::Refusal;
@@ -36,7 +36,7 @@ pub fn check_kind<D: Pm>(dev: &D, inode: Inode, kind: Kind) -> Result<(), Refusa
             if inode.kind != DIRECTORY_KIND {
                 return Err(Refusal::NotDir);
             }
-            match next_after(dev, inode, None) {
+            match first_slot(dev, inode) {
                 Some(_) => Err(Refusal::NotEmpty),
                 None => Ok(()),
             }

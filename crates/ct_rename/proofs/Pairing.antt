@@ -1,8 +1,10 @@
 -- Pairs that are added to those of a draft, whatever they did to other pages.
-use Rattle.std.proofs.Common.{◌≡◌, ◌≢◌, ℕ, ◌+◌, ◌*◌, ◌/◌, ◌%◌, ◌<◌, ◌≤◌, List, [], ◌++◌, length, refl, sym, ap, subst, ◌∙◌}
+use Rattle.std.proofs.Common.{◌≡◌, ◌≢◌, ℕ, ◌+◌, ◌*◌, ◌/◌, ◌%◌, ◌<◌, ◌≤◌, List, [], ◌++◌, length, refl, sym, ap, subst, ◌∙◌, inl, inr}
+use Rattle.std.specs.Prelude.{nat_le, nat_lt, ◌&&◌}
+use Rattle.std.proofs.lemmas.Bool.{cases_Bool}
 use Rattle.ct_base.specs.Settled.{Pair, with_pairs}
 use Rattle.ct_base.specs.Walk.{page_at, AreTables}
-use Rattle.ct_base.specs.Words.{Rewrites, pairs_to, place_at, with_words}
+use Rattle.ct_base.specs.Words.{Rewrites, pairs_to, place_at, with_words, word_at}
 use Rattle.ct_image.proofs.Beside.{Beside, beside_cells, beside_tables, beside_words}
 use Rattle.ct_pm.specs.Device.{SameOff}
 use Rattle.ct_record.specs.Record.{InRecord}
@@ -12,7 +14,7 @@ use Rattle.ct_words.proofs.Runs.{Puts, puts_rewrites, with_pairs_append}
 -- a run of words was added, in a page that is where it was
 pub record Added (img now : List ℕ) (ps qs : List Pair) (at : ℕ) (values : List ℕ) : Type 0 where
   pub same : SameOff InRecord now img
-  pub is : qs ≡ pairs_to (place_at img at) values (length values) ++ ps
+  pub is : with_pairs qs now ≡ with_pairs (pairs_to (place_at img at) values (length values) ++ ps) now
   pub aligned : at % 8 ≡ 0
   pub inside : at % 4096 + 8 * length values ≤ 4096
   pub high : at < 281474976710656
@@ -45,7 +47,7 @@ module _ {img now : List ℕ} {ps qs : List Pair} {at : ℕ} {values : List ℕ}
       let place : place_at middle at ≡ place_at img at = ap (λ p. p * 512 + at % 4096 / 8) page_stays in
       with_pairs_append (pairs_to (place_at middle at) values (length values)) [] middle
       ∙ ap (λ p. with_pairs (pairs_to p values (length values)) middle) place
-      ∙ sym (with_pairs_append (pairs_to (place_at img at) values (length values)) ps now) ∙ ap (λ x. with_pairs x now) (sym s.is)
+      ∙ sym (with_pairs_append (pairs_to (place_at img at) values (length values)) ps now) ∙ sym s.is
 
   after : Rewrites middle (with_pairs qs now) at values
   after = subst (λ (x : List ℕ). Rewrites middle x at values) words (puts_rewrites puts (record {
@@ -63,3 +65,18 @@ module _ {img now : List ℕ} {ps qs : List Pair} {at : ℕ} {values : List ℕ}
     head = λ w lt. after.head w lt ∙ beside.front w lt;
     size = after.size ∙ beside.size;
   }
+
+-- where the words of a run may become some values or others, they go from the first to the others
+pub rewrites_over : {old middle new : List ℕ} {at : ℕ} {xs ys : List ℕ} → Rewrites old middle at xs → Rewrites old new at ys → length xs ≡ length ys → Rewrites middle new at ys
+rewrites_over {old} {middle} {new} {at} {xs} {ys} first second size = record {
+  tables = second.tables;
+  cells = λ d x le. second.cells d x le ∙ sym (first.cells d x le);
+  words = λ a. second.words a ∙ over a;
+  head = λ w lt. second.head w lt ∙ sym (first.head w lt);
+  size = second.size ∙ sym first.size;
+} where
+  over : (a : ℕ) → with_words (word_at old) at ys a ≡ with_words (word_at middle) at ys a
+  over a = elim (cases_Bool (nat_le at a && nat_lt a (at + 8 * length ys))) [
+    | inl inside ↦ rw inside refl
+    | inr outside ↦ rw outside (sym (first.words a ∙ rw (ap (λ n. nat_le at a && nat_lt a (at + 8 * n)) size ∙ outside) refl))
+  ]

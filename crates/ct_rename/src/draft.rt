@@ -17,7 +17,7 @@ ghost use Rattle.ct_rename.specs.Moves.{CanMove, IsLinkWord, IsMoveWord, IsRepla
 use ct_base::{
     ENTRY_BYTES, ENTRY_WORDS, Inode, MOST_INODES, MOST_LONG_PAIRS, NO_PARTITION, PAGE_BYTES,
 };
-use ct_dir::{clear, set};
+use ct_dir::{clear, set, set_changed};
 use ct_enter::raise_size;
 use ct_find::{Entry, Spot};
 use ct_pm::{Pm, PmFault};
@@ -30,7 +30,8 @@ pub const MOST_MOVE_PAIRS: u64 = 65;
 /// The most pairs where an object is replaced: the words of two slots, and what the removal of an object takes.
 pub const MOST_RENAME_PAIRS: u64 = 242;
 
-// Drafts that a slot becomes empty, and that another, or the same, then has an entry.
+// Drafts that a slot becomes empty, and that another then has an entry. Where both are one, the words that change are
+// drafted and no others.
 fn relink<D: Pm>(
     draft: &mut Draft<D>,
     from: Inode,
@@ -59,10 +60,14 @@ fn relink<D: Pm>(
     ensures named { OnOk result ((word : ℕ) → Named (pairs_of draft.new) word
         → IsLinkWord (words_under draft.old) (from.base + offset) (to.base + at) word ⊎ Named (pairs_of draft.old) word) }
     ensures bytes { OnOk result ((k : ℕ) → slice_index name.now k < 256) }
-    ensures count { OnOk result (count_of draft.new ≡ count_of draft.old + 2 * ENTRY_WORDS) }
+    ensures some { OnOk result (count_of draft.old < count_of draft.new) }
+    ensures few { OnOk result (count_of draft.new ≤ count_of draft.old + 2 * ENTRY_WORDS) }
     ensures drafts { Drafts draft.old draft.new }
     ensures cause { HasCause (faults_under draft.old) (faults_under draft.new) result }
 {
+    if from.base + offset == to.base + at {
+        return set_changed(draft, to, at, number, name);
+    }
     clear(draft, from, offset)?;
     set(draft, to, at, number, name)?;
     Ok(())

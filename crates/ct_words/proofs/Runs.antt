@@ -1,17 +1,18 @@
 -- Words of one page that get values, one after the other.
-use Rattle.std.proofs.Common.{◌≡◌, ◌≢◌, ℕ, zero, suc, ◌+◌, ◌-◌, ◌*◌, ◌/◌, ◌%◌, ◌<◌, ◌≤◌, false, List, [], ◌∷◌, ◌++◌, length, set, refl, sym, ap, subst, ◌∙◌, inl, inr, arith}
+use Rattle.std.proofs.Common.{◌≡◌, ◌≢◌, ◌⊎◌, ℕ, zero, suc, ◌+◌, ◌-◌, ◌*◌, ◌/◌, ◌%◌, ◌<◌, ◌≤◌, false, List, [], ◌∷◌, ◌++◌, length, set, refl, sym, ap, subst, ◌∙◌, inl, inr, arith}
 use Rattle.std.specs.Prelude.{nat_le, nat_lt, ◌&&◌, if◌then◌else◌, slice_index}
 use Rattle.std.proofs.lemmas.Bool.{cases_eq, cases_lt, le-leb, lt-leb, lt-ltb, le-ltb, and_from, and_left, and_right}
-use Rattle.std.proofs.lemmas.List.{get_or-set_same, get_or-set_other, length-set}
-use Rattle.ct_base.specs.Settled.{Pair, with_pairs}
+use Rattle.std.proofs.lemmas.List.{get_or-set_same, get_or-set_other, length-set, set-get_or}
+use Rattle.ct_base.specs.Settled.{Named, Pair, with_pairs}
 use Rattle.ct_base.specs.Walk.{word, page_at, AreTables}
 use Rattle.ct_base.specs.Words.{word_at, place_at, pairs_to, with_words, Rewrites, Writes}
 use Rattle.ct_image.proofs.Beside.{Beside, beside_count, beside_cells, beside_tables, beside_words}
+use Rattle.ct_image.proofs.Pairs.{with_pairs_alike}
 use Rattle.ct_image.proofs.Steps.{page_at-high}
 use Rattle.ct_image.proofs.Write.{at_here, at_others, cells, tables_new, page_low}
-use Rattle.ct_pm.specs.Device.{SameOff}
+use Rattle.ct_pm.specs.Device.{IsIn, SameOff}
 use Rattle.ct_record.specs.Record.{InRecord}
-use Rattle.ct_words.specs.Drafted.{MapsAlike}
+use Rattle.ct_words.specs.Drafted.{MapsAlike, PutFirst}
 use Rattle.ct_record.proofs.Under.{under_beside}
 use Rattle.ct_words.proofs.Placed.{record_beside, same_page}
 
@@ -19,6 +20,32 @@ use Rattle.ct_words.proofs.Placed.{record_beside, same_page}
 pub with_pairs_append : (ps qs : List Pair) (words : List ℕ) → with_pairs (ps ++ qs) words ≡ with_pairs ps (with_pairs qs words)
 with_pairs_append [] qs words = refl
 with_pairs_append (p ∷ ps) qs words = ap (λ w. set w p.word p.value) (with_pairs_append ps qs words)
+
+next : (n : ℕ) → suc n ≡ n + 1
+next n = omega arith
+
+-- one more of the values, where a pair for it was added, or where its word has it already
+module _ {place n : ℕ} {values img : List ℕ} {old mid : List Pair} (puts : PutFirst place values n img old mid) where
+  later : (w : ℕ) → Named mid w → IsIn place (n + 1) w ⊎ Named old w
+  later w named = elim (puts.names w named) [ inl is ↦ inl (is.0, omega (arith, is.1)) | inr was ↦ inr was ]
+
+  pub put_more : PutFirst place values (n + 1) img old (record { word = place + n; value = slice_index values n } ∷ mid)
+  put_more = record {
+    does = λ words same. ap (λ x. set x (place + n) (slice_index values n)) (puts.does words same) ∙ ap (λ k. with_pairs (pairs_to place values k ++ old) words) (next n);
+    names = λ w named. elim named [ inl is ↦ inl (omega (arith, is), omega (arith, is)) | inr was ↦ later w was ];
+  }
+
+  pub put_kept : (now : List ℕ) → SameOff InRecord now img → 16896 ≤ place + n → slice_index (with_pairs mid now) (place + n) ≡ slice_index values n
+      → PutFirst place values (n + 1) img old mid
+  put_kept now under low is = record {
+    does = λ words same.
+        let alike : slice_index (with_pairs mid words) (place + n) ≡ slice_index (with_pairs mid now) (place + n) =
+        with_pairs_alike mid words now (place + n) (same.size ∙ sym under.size)
+        (λ _. same.others (place + n) (λ z. omega (arith, low, z.1)) ∙ sym (under.others (place + n) (λ z. omega (arith, low, z.1)))) in
+        sym (set-get_or (with_pairs mid words) (place + n) 0) ∙ ap (set (with_pairs mid words) (place + n)) (alike ∙ is)
+        ∙ ap (λ x. set x (place + n) (slice_index values n)) (puts.does words same) ∙ ap (λ k. with_pairs (pairs_to place values k ++ old) words) (next n);
+    names = later;
+  }
 
 -- the words by address, where the first n of the values stand
 abbrev upto : (ℕ → ℕ) → ℕ → List ℕ → ℕ → ℕ → ℕ
@@ -133,7 +160,7 @@ run_all old at values (suc n) m f le = run_step f (run_all old at values n m f (
 -- The pairs of a run of words were added to those of a draft.
 pub record Puts (img now : List ℕ) (ps qs : List Pair) (at : ℕ) (values : List ℕ) : Type 0 where
   pub same : SameOff InRecord now img
-  pub is : qs ≡ pairs_to (place_at img at) values (length values) ++ ps
+  pub is : with_pairs qs now ≡ with_pairs (pairs_to (place_at img at) values (length values) ++ ps) now
   pub aligned : at % 8 ≡ 0
   pub inside : at % 4096 + 8 * length values ≤ 4096
   pub high : at < 281474976710656
@@ -155,7 +182,7 @@ module _ {img now : List ℕ} {ps qs : List Pair} {at : ℕ} {values : List ℕ}
         let fits : Fits middle at (length values) = record { tables = beside_tables beside maps.after; aligned = s.aligned; inside = s.inside; there = λ z. s.there (sym page_stays ∙ z) } in
         let place : place_at middle at ≡ place_at img at = ap (λ p. p * 512 + at % 4096 / 8) page_stays in
         let words : with_pairs (pairs_to (place_at middle at) values (length values)) middle ≡ with_pairs qs now =
-        ap (λ p. with_pairs (pairs_to p values (length values)) middle) place ∙ sym (with_pairs_append (pairs_to (place_at img at) values (length values)) ps now) ∙ ap (λ x. with_pairs x now) (sym s.is) in
+        ap (λ p. with_pairs (pairs_to p values (length values)) middle) place ∙ sym (with_pairs_append (pairs_to (place_at img at) values (length values)) ps now) ∙ sym s.is in
         subst (λ (x : List ℕ). Run middle x at values (length values)) words (run_all middle at values (length values) (length values) fits (omega arith))
 
     pub puts_rewrites : Rewrites (with_pairs ps img) (with_pairs qs now) at values

@@ -10,4 +10,4 @@ mod run;
 
 pub use draft::{store_at, value_at};
 pub use load::{load_word, place_of};
-pub use run::put_words;
+pub use run::{put_changed, put_words};

@@ -1,4 +1,5 @@
 use Rattle.std.proofs.Common.{ap, ◌∙◌, ◌++◌, length}
+use Rattle.ct_base.specs.Settled.{with_pairs}
 use Rattle.ct_base.specs.Words.{pairs_to, place_at}
 use Rattle.ct_record.specs.Seen.{pairs_of, words_under}
 use Rattle.ct_words.proofs.Runs.{Puts, puts_rewrites, puts_maps}
@@ -11,8 +12,8 @@ put g c =
     let values = c.args.values.now in
     record {
       same = c.add_words.ensures.drafts.same;
-      is = c.in_ok-add_words.ensures.added
-          ∙ ap (λ p. pairs_to p values (length values) ++ pairs_of c.args.draft.now) (c.place_of-place.ensures.value ∙ ap (λ d. place_at (g.D.Pm.words d) c.args.address) c.dev.ensures);
+      is = ap (λ ps. with_pairs ps (words_under c.add_words.new.draft)) (c.in_ok-add_words.ensures.added
+          ∙ ap (λ p. pairs_to p values (length values) ++ pairs_of c.args.draft.now) (c.place_of-place.ensures.value ∙ ap (λ d. place_at (g.D.Pm.words d) c.args.address) c.dev.ensures));
       aligned = c.requires.aligned;
       inside = c.requires.inside;
       high = c.requires.high;

@@ -1,9 +1,9 @@
 -- Lists of the numbers that pass a test.
 use Rattle.std.proofs.Common.{◌≡◌, ◌≢◌, ℕ, zero, suc, ◌+◌, ◌<◌, ◌≤◌, Bool, true, false, cond, List, [], ◌∷◌, length, get_or, subst, refl, sym, ap, ◌∙◌, ◌⊎◌, inl, inr, arith}
-use Rattle.std.proofs.lemmas.Bool.{cases_eq, cases_lt, cases_Bool, cond-true, cond-false, eq-eqb, ne_eqb, lt-ltb, le-ltb}
-use Rattle.std.specs.Prelude.{Contains}
+use Rattle.std.proofs.lemmas.Bool.{cases_eq, cases_lt, cases_Bool, cond-true, cond-false, eq-eqb, ne_eqb, lt-ltb, le-ltb, le-leb, lt-leb, and_from, and_left, and_right}
+use Rattle.std.specs.Prelude.{Contains, ◌&&◌, nat_le}
 use Rattle.ct_base.specs.Free.{IsRising}
-use Rattle.ct_frames.specs.Free.{listed, inserted, without, rising}
+use Rattle.ct_frames.specs.Free.{listed, inserted, without, rising, from_on}
 
 -- a test that is the same lists the same
 pub listed-same : (f g : ℕ → Bool) (n lo : ℕ) → ((q : ℕ) → lo ≤ q → q < lo + n → g q ≡ f q) → listed g n lo ≡ listed f n lo
@@ -210,3 +210,65 @@ listed_rising f (suc n) lo =
       | inl t ↦ rw t (λ q c. omega (arith, (listed_passes f n (suc lo) q c).0), rest)
       | inr u ↦ rw u rest
     ]
+
+-- those from a number on are listed by a test that asks for both
+from_on-listed : (f : ℕ → Bool) (n lo from : ℕ) → from_on from (listed f n lo) ≡ listed (λ q. f q && nat_le from q) n lo
+from_on-listed f zero lo from = refl
+from_on-listed f (suc n) lo from =
+    let rest = from_on-listed f n (suc lo) from in
+    elim (cases_Bool (f lo)) [
+      | inl t ↦ elim (cases_lt lo from) [
+        | inl lt ↦ rw (t, lt-ltb lo from lt, lt-leb from lo lt) rest
+        | inr ge ↦ rw (t, le-ltb lo from ge, le-leb from lo ge) (ap (λ k. lo ∷ k) rest)
+      ]
+      | inr t ↦ rw t rest
+    ]
+
+-- where the first of them is known
+pub from_on-first : (f : ℕ → Bool) (n from page : ℕ) → from ≤ page → page < n → f page ≡ true → ((q : ℕ) → from ≤ q → q < page → f q ≡ false)
+    → from_on from (listed f n 0) ≡ page ∷ from_on (page + 1) (listed f n 0)
+from_on-first f n from page low high is lowest =
+    from_on-listed f n 0 from
+    ∙ listed-first (λ q. f q && nat_le from q) (λ q. f q && nat_le (page + 1) q) n 0 page (omega arith) (omega arith)
+    (and_from _ _ is (le-leb from page low)) (and_right _ _ (lt-leb (page + 1) page (omega arith)))
+    (λ q lt. elim (cases_lt q from) [
+      | inl below ↦ and_right _ _ (lt-leb from q below)
+      | inr above ↦ and_left _ _ (lowest q above lt)
+    ])
+    (λ q other. elim (cases_lt q page) [
+      | inl lt ↦ and_right _ _ (lt-leb (page + 1) q (omega arith)) ∙ sym (elim (cases_lt q from) [
+        | inl below ↦ and_right _ _ (lt-leb from q below)
+        | inr above ↦ and_left _ _ (lowest q above lt)
+      ])
+      | inr ge ↦ ap (λ b. f q && b) (le-leb (page + 1) q (omega (arith, other)) ∙ sym (le-leb from q (omega arith)))
+    ])
+    ∙ ap (λ k. page ∷ k) (sym (from_on-listed f n 0 (page + 1)))
+
+pub from_on-none : (f : ℕ → Bool) (n from : ℕ) → ((q : ℕ) → from ≤ q → f q ≡ false) → from_on from (listed f n 0) ≡ []
+from_on-none f n from none =
+    from_on-listed f n 0 from
+    ∙ listed-none (λ q. f q && nat_le from q) n 0 (λ q low high. elim (cases_lt q from) [
+      | inl below ↦ and_right _ _ (lt-leb from q below)
+      | inr above ↦ and_left _ _ (none q above)
+    ])
+
+-- what is not below 0 is all
+pub from_on-all : (qs : List ℕ) → from_on 0 qs ≡ qs
+from_on-all [] = refl
+from_on-all (q ∷ qs) = rw (le-ltb q 0 (omega arith)) (ap (λ k. q ∷ k) (from_on-all qs))
+
+-- what is among those from a number on
+pub from_on-parts : (lo q : ℕ) (qs : List ℕ) → Contains (from_on lo qs) q → Contains qs q × (lo ≤ q)
+from_on-parts lo q [] c = absurd (omega (arith, c.1))
+from_on-parts lo q (x ∷ xs) c =
+    elim (cases_lt x lo) [
+      | inl lt ↦ later (from_on-parts lo q xs (subst (λ (ys : List ℕ). Contains ys q) (cond-true _ _ _ (lt-ltb x lo lt)) c))
+      | inr ge ↦ first ge (from_on-parts lo q xs) (subst (λ (ys : List ℕ). Contains ys q) (cond-false _ _ _ (le-ltb x lo ge)) c)
+    ]
+  where
+    later : Contains xs q × (lo ≤ q) → Contains (x ∷ xs) q × (lo ≤ q)
+    later p = ((suc p.0.0, omega (arith, p.0.1), p.0.2), p.1)
+
+    first : lo ≤ x → (Contains (from_on lo xs) q → Contains xs q × (lo ≤ q)) → Contains (x ∷ from_on lo xs) q → Contains (x ∷ xs) q × (lo ≤ q)
+    first ge rest (zero, lt, e) = ((0, omega arith, e), omega (arith, e, ge))
+    first ge rest (suc k, lt, e) = later (rest (k, omega arith, e))

@@ -27,6 +27,11 @@ abbrev pub without : ℕ → List ℕ → List ℕ
 without page [] = []
 without page (q ∷ qs) = if q == page then qs else q ∷ without page qs
 
+-- those of a list that are not below a number
+abbrev pub from_on : ℕ → List ℕ → List ℕ
+from_on lo [] = []
+from_on lo (q ∷ qs) = if nat_lt q lo then from_on lo qs else q ∷ from_on lo qs
+
 -- the numbers from lo on, n of them
 abbrev pub rising : ℕ → ℕ → List ℕ
 rising zero lo = []

@@ -1,8 +1,8 @@
 ghost use Rattle.std.specs.Prelude.{◌≡◌, ◌≢◌, ℕ, ◌+◌, ◌-◌, ◌*◌, ◌/◌, ◌%◌, ◌<◌, ◌≤◌, ◌↔◌, [], ◌∷◌, length, IsTrue, IsNone, IfSome, IfNone, IfOk, Contains};
 ghost use Rattle.ct_base.specs.Free.{IsRising};
-ghost use Rattle.ct_frames.specs.Free.{FreePages, inserted, without, rising};
+ghost use Rattle.ct_frames.specs.Free.{FreePages, inserted, without, rising, from_on};
 
-use crate::bits::{clear_bit, has_bit, lowest_bit, set_bit};
+use crate::bits::{clear_bit, has_bit, lowest_bit, next_bit, set_bit};
 use ct_base::{FIRST_PAGE, MOST_PAGES, NoMemory, Page};
 use std::alloc::Global;
 use std::marker::Model;
@@ -93,6 +93,17 @@ impl Frames {
     {
         let number = page.number();
         number < self.pages && has_bit(&self.words, number)
+    }
+
+    /// The lowest free page from a number on; `None` exactly where none is free there.
+    pub fn lowest_from(&self, from: u64) -> Option<Page>
+        ensures some { IfSome result (λ page. from_on from self.now.free ≡ page ∷ from_on (page + 1) self.now.free) }
+        ensures none { IfNone result (from_on from self.now.free ≡ []) }
+        ensures in_range { (q : ℕ) → Contains self.now.free q → (FIRST_PAGE ≤ q) × (q < self.now.pages) }
+        ensures small { IfSome result (λ page. page < MOST_PAGES) }
+    {
+        let page = next_bit(&self.words, from)?;
+        Some(Page::new(page))
     }
 
     /// How many pages are free.

@@ -1,14 +1,16 @@
 -- What the way to a cell finds, one index step further.
-use Rattle.std.proofs.Common.{◌≡◌, ◌≢◌, ℕ, suc, ◌+◌, ◌-◌, ◌*◌, ◌/◌, ◌%◌, ◌^◌, ◌<◌, ◌≤◌, List, Some, None, sym, ap, ◌∙◌, inl, inr, arith}
+use Rattle.std.proofs.Common.{◌≡◌, ◌≢◌, ℕ, suc, ◌+◌, ◌-◌, ◌*◌, ◌/◌, ◌%◌, ◌^◌, ◌<◌, ◌≤◌, true, List, Some, None, sym, ap, ◌∙◌, inl, inr, arith}
 use Rattle.std.specs.Prelude.{◌==◌}
-use Rattle.std.proofs.lemmas.Bool.{cases_eq, eq-eqb, ne_eqb}
+use Rattle.std.proofs.lemmas.Bool.{cases_eq, cases_lt, eq-eqb, ne_eqb, both_ways}
 use Rattle.std.proofs.Math.Nat.{pow-suc}
 use Rattle.ct_base.specs.Walk.{page_at, next}
 use Rattle.ct_image.proofs.Steps.{page_at-next, page_at-root, next-zero}
 use Rattle.ct_walk.specs.declared.absent.Look.TheVariants.{Present, Absent}
 use Rattle.ct_walk.specs.Looks.{Finds}
 use Rattle.ct_walk.specs.Pages.{some_page}
-use Rattle.ct_walk.specs.Runs.{absent_below}
+use Rattle.ct_base.specs.Wants.{Want, is_wanted}
+use Rattle.ct_walk.specs.declared.wants.Run.{Run}
+use Rattle.ct_walk.specs.Runs.{IsNearest, NoneMissing, absent_below}
 use Rattle.ct_walk.proofs.Entries.{some_page-is, some_page-none}
 use Rattle.ct_walk.proofs.Cells.{count_below-skip, count_below-all}
 
@@ -60,3 +62,38 @@ absent_more img d total from x absent more counted present none one many =
           let at : x + more ≡ x + absent = omega (arith, many (omega (arith, some))) in
           omega (arith, counted, all, ap (absent_below img d) at)
     ]
+
+-- No cell from one on and before the run is missing, and the run is the next one of wanted cells.
+pub record Seeking (img : List ℕ) (wants : List Want) (d from : ℕ) (run : Run) : Type 0 where
+  pub low : from ≤ run.first
+  pub order : run.first ≤ run.past
+  pub high : run.past ≤ 512 ^ d
+  pub ends : run.first ≡ run.past → run.first ≡ 512 ^ d
+  pub inside : (x : ℕ) → run.first ≤ x → x < run.past → is_wanted wants d x ≡ true
+  pub none : NoneMissing img wants d from run.first
+
+pub seeking_start : (img : List ℕ) (wants : List Want) (d from : ℕ) (run : Run) → IsNearest wants d from run → Seeking img wants d from run
+seeking_start img wants d from run near = record {
+  low = near.low;
+  order = near.order;
+  high = near.high;
+  ends = near.ends;
+  inside = near.inside;
+  none = λ x f t missing. both_ways _ (near.before x f t) missing.wanted;
+}
+
+pub seeking_step : {img : List ℕ} {wants : List Want} {d from : ℕ} {run next : Run} → Seeking img wants d from run → page_at img d run.first ≢ 0 → IsNearest wants d (run.first + 1) next → Seeking img wants d from next
+seeking_step {img} {wants} {d} {from} {run} {next} seek there near = record {
+  low = let low = near.low in let was = seek.low in omega arith;
+  order = near.order;
+  high = near.high;
+  ends = near.ends;
+  inside = near.inside;
+  none = λ x f t missing. elim (cases_lt x run.first) [
+    | inl before ↦ seek.none x f before missing
+    | inr from_first ↦ elim (cases_eq x run.first) [
+      | inl here ↦ there (ap (page_at img d) (sym here) ∙ missing.absent)
+      | inr after ↦ both_ways _ (near.before x (omega (arith, after)) t) missing.wanted
+    ]
+  ];
+}

@@ -89,6 +89,23 @@ grown_then {a} {b} {c} {wants} {before} {mid} {after} left more p q =
       size = q.size ∙ p.size;
     }
 
+-- both out of the same pages
+pub grown_both : {a b c : List ℕ} {wants : List Want} {before after : FreePages} → Grown a b wants before after → Grown b c wants before after → Grown a c wants before after
+grown_both {a} {b} {c} {wants} {before} {after} p q =
+    record {
+      tables = q.tables;
+      walks = λ d x le ne. q.walks d x le (λ none. ne (sym (p.walks d x le ne) ∙ none)) ∙ p.walks d x le ne;
+      cells = λ d x le not. q.cells d x le not ∙ p.cells d x le not;
+      fresh = λ d x le none ne. elim (cases_eq (page_at b d x) 0) [
+        | inl absent ↦ q.fresh d x le absent ne
+        | inr there ↦ subst (λ (k : ℕ). IsTaken before after k) (sym (q.walks d x le there)) (p.fresh d x le none there)
+      ];
+      bytes = λ v lt. q.bytes v lt ∙ p.bytes v lt;
+      low = λ w lt. q.low w lt ∙ p.low w lt;
+      rest = λ w nt ng. q.rest w nt (λ gap. gap_earlier w p gap nt ng) ∙ p.rest w nt ng;
+      size = q.size ∙ p.size;
+    }
+
 may_later : {a : List ℕ} {wants : List Want} {before mid after : FreePages} (w : ℕ) → ((q : ℕ) → Contains after.free q → Contains mid.free q) → MayGrow a wants before mid w → MayGrow a wants before after w
 may_later w left (inl t) = inl (taken_later left t)
 may_later w left (inr gap) = inr gap
@@ -135,7 +152,7 @@ may_earlier {a} {b} {wants} {before} {mid} {after} w tables left more p (inr gap
           })
     ]
 
-only_words : (told : Option History) (words : List ℕ) → Replays told words → NothingPending told → LeavesOnly told told (λ image. image ≡ words)
+pub only_words : (told : Option History) (words : List ℕ) → Replays told words → NothingPending told → LeavesOnly told told (λ image. image ≡ words)
 only_words None words replays settled = started None (λ image. image ≡ words) tt
 only_words (Some h) words replays settled = started (Some h) (λ image. image ≡ words) (λ image allowed. settled image allowed ∙ sym replays)
 

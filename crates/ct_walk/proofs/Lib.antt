@@ -1,11 +1,16 @@
 pub mod Blank
 pub mod Cells
+pub mod Clearing
+pub mod Deepening
 pub mod Entries
 pub mod Filling
 pub mod Finding
 pub mod Gives
 pub mod Grows
 pub mod Levels
+pub mod Linking
+pub mod Lowest
 pub mod OneWay
 pub mod Slots
+pub mod Wiped
 pub mod Zeros

@@ -7,10 +7,10 @@ use Rattle.ct_pm.specs.declared.step.Step.TheVariants.{Store, Flush, Fence}
 use Rattle.ct_pm.specs.Images.{History, IsAllowed, reads}
 use Rattle.ct_pm.proofs.Allowed.{push, length-reads, shows_fence, written_flushed}
 use Rattle.ct_pm.proofs.Told.{OnDevice}
-use Rattle.ct_pm.specs.Device.{with_steps, AddsStep, EachNow, MakesOnly, NothingPending, WrittenBack, SameOff, QuietOff, IsIn}
+use Rattle.ct_pm.specs.Device.{with_steps, AddsStep, EachNow, MakesOnly, NothingPending, WrittenBack, SameOff, QuietOff, KeepsOthersBack, IsIn}
 use Rattle.ct_pm.proofs.Made.{makes_none, makes_step, makes_then, makes_weaker}
 use Rattle.ct_pm.proofs.OneWord.{Replays, on_device}
-use Rattle.ct_pm.proofs.Quiet.{same_off_set, quiet_here, quiet_store, quiet_then, quiet_settled}
+use Rattle.ct_pm.proofs.Quiet.{same_off_set, quiet_here, quiet_store, quiet_then, quiet_settled, back_store}
 use Rattle.ct_pm.proofs.Fence.{settled_by_fence}
 
 -- what holds of a result that is Ok, where it holds under a premise
@@ -18,11 +18,20 @@ pub on_ok_if : {T E : Type 0} (P Q : Type 0) (r : Result T E) → (P → OnOk r 
 on_ok_if P Q (Ok done) f = f
 on_ok_if P Q (Err error) f = tt
 
+pub on_ok_then : {T E P Q : Type 0} (r : Result T E) → OnOk r P → (P → Q) → OnOk r Q
+on_ok_then (Ok done) p f = f p
+on_ok_then (Err error) p f = tt
+
+pub on_ok_of : {T E P : Type 0} (r : Result T E) → P → OnOk r P
+on_ok_of (Ok done) p = p
+on_ok_of (Err error) p = tt
+
 -- the first i of n words are 0, and all others are as they were
 pub record ZeroSoFar (first n i : ℕ) (was words : List ℕ) (old told : Option History) : Type 0 where
   pub zeros : (k : ℕ) → k < i → slice_index words (first + k) ≡ 0
   pub same : SameOff (IsIn first n) words was
   pub quiet : QuietOff (IsIn first n) old told
+  pub others : KeepsOthersBack (IsIn first n) old told
   pub made : MakesOnly (λ at put. IsIn first n at) old told
 
 pub zero_none : (first n : ℕ) (was : List ℕ) (old : Option History) → ZeroSoFar first n 0 was was old old
@@ -30,6 +39,7 @@ zero_none first n was old = record {
   zeros = λ k below. absurd (omega arith);
   same = record { size = refl; others = λ word off. refl };
   quiet = quiet_here (IsIn first n) old;
+  others = λ line none back. back;
   made = makes_none (λ at put. IsIn first n at) old;
 }
 
@@ -46,6 +56,7 @@ zero_more r {first = first} {n = n} {i = i} {was = was} {words = words} {after =
             ap (λ (l : List ℕ). slice_index l (first + k)) put ∙ get_or-set_other words (first + i) (first + k) 0 0 apart ∙ so_far.zeros k (omega arith)
       ];
       same = subst (λ l. SameOff (IsIn first n) l was) (sym put) (same_off_set (IsIn first n) words was (first + i) 0 (omega arith, omega arith) so_far.same);
+      others = λ line none back. back_store r line adds (λ is. none (first + i) (omega arith, omega arith) is) (so_far.others line none back);
       quiet = quiet_store (IsIn first n) so_far.quiet adds (on_device told words (first + i) replays fits) (omega arith, omega arith);
       made = makes_step r so_far.made adds (omega arith, omega arith);
     }

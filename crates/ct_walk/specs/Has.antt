@@ -20,9 +20,9 @@ at_one height v = record { height = height; at = v; len = 1 } ∷ []
 abbrev pub IsInRange : Want → Type 0
 IsInRange want = (want.height ≤ 4) × (1 ≤ want.len) × (want.at + want.len ≤ ADDRESS_END)
 
--- each cell on the path of the want has its page
-abbrev pub HasPath : List ℕ → Want → Type 0
-HasPath img want = (d x : ℕ) → is_on_path d x want ≡ true → page_at img d x ≢ 0
+abbrev pub AreInRange : List Want → Type 0
+AreInRange [] = Unit {0}
+AreInRange (want ∷ wants) = IsInRange want × AreInRange wants
 
 -- what is on the path of the want is wanted
 abbrev pub IsAmong : Want → List Want → Type 0

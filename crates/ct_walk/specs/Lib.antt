@@ -1,3 +1,4 @@
+pub mod Depths
 pub mod Growth
 pub mod Has
 pub mod Looks

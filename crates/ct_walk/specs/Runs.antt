@@ -17,3 +17,12 @@ pub record IsNearest (wants : List Want) (d from : ℕ) (run : Run) : Type 0 whe
 -- how many cells of a depth with numbers below n have no page
 abbrev pub absent_below : List ℕ → ℕ → ℕ → ℕ
 absent_below img d n = count_below (λ x. page_at img d x == 0) n
+
+-- the cell is wanted and has no page
+pub record IsMissing (img : List ℕ) (wants : List Want) (d x : ℕ) : Type 0 where
+  pub wanted : is_wanted wants d x ≡ true
+  pub absent : page_at img d x ≡ 0
+
+-- no cell from one on and before another is
+abbrev pub NoneMissing : List ℕ → List Want → ℕ → ℕ → ℕ → Type 0
+NoneMissing img wants d from to = (x : ℕ) → from ≤ x → x < to → IsMissing img wants d x → ⊥

@@ -1,14 +1,14 @@
 // How many cells have no page, counted by the entries of the tables that are there.
-ghost use Rattle.std.specs.Prelude.{◌≡◌, ◌≢◌, ℕ, ◌+◌, ◌-◌, ◌*◌, ◌/◌, ◌^◌, ◌<◌, ◌≤◌, ◌↔◌, IsTrue};
+ghost use Rattle.std.specs.Prelude.{◌≡◌, ◌≢◌, ℕ, ◌+◌, ◌-◌, ◌*◌, ◌/◌, ◌^◌, ◌%◌, ◌<◌, ◌≤◌, ◌↔◌, IsTrue, IfSome, IfNone};
 ghost use Rattle.ct_base.specs.Walk.{page_at, AreTables};
 ghost use Rattle.ct_base.specs.Wants.{missing as missing_of, missing_at as missing_at_of};
 ghost use Rattle.ct_walk.specs.Has.{Has};
 ghost use Rattle.ct_walk.specs.Looks.{Finds};
-ghost use Rattle.ct_walk.specs.Runs.{absent_below};
+ghost use Rattle.ct_walk.specs.Runs.{absent_below, IsMissing, NoneMissing};
 
 use crate::steps::entry_of;
 use crate::wants::{Want, next_run};
-use ct_base::{ROOT_PAGE, TABLE_ENTRIES};
+use ct_base::{PAGE_WORDS, ROOT_PAGE, TABLE_ENTRIES};
 use ct_pm::Pm;
 
 /// What the way to a cell meets.
@@ -73,8 +73,43 @@ fn absent_between<D: Pm>(dev: &D, depth: u32, from: u64, to: u64) -> u64
     total
 }
 
+/// The word of the entry that names the page of a cell, in the table that is there.
+pub fn entry_of_cell<D: Pm>(dev: &D, depth: u32, x: u64) -> u64
+    requires tables { AreTables (D.words dev.now) }
+    requires below { 1 ≤ depth }
+    requires deep { depth ≤ 4 }
+    requires low { x < TABLE_ENTRIES ^ depth }
+    requires table { page_at (D.words dev.now) (depth - 1) (x / TABLE_ENTRIES) ≢ 0 }
+    ensures { result ≡ page_at (D.words dev.now) (depth - 1) (x / TABLE_ENTRIES) * PAGE_WORDS + x % TABLE_ENTRIES }
+{
+    match look_at(dev, depth - 1, x / TABLE_ENTRIES) {
+        Look::Present(table) => table * PAGE_WORDS + x % TABLE_ENTRIES,
+        Look::Absent(_) => unreachable!(),
+    }
+}
+
+/// The first cell of a depth from one on that is wanted and has no page.
+pub fn next_missing<D: Pm>(dev: &D, wants: &[Want], depth: u32, from: u64) -> Option<u64>
+    requires tables { AreTables (D.words dev.now) }
+    requires deep { depth ≤ 4 }
+    requires within { from ≤ TABLE_ENTRIES ^ depth }
+    ensures some { IfSome result (λ x. (from ≤ x) × (x < TABLE_ENTRIES ^ depth) × IsMissing (D.words dev.now) wants.now depth x) }
+    ensures first { IfSome result (λ x. NoneMissing (D.words dev.now) wants.now depth from x) }
+    ensures none { IfNone result (NoneMissing (D.words dev.now) wants.now depth from (TABLE_ENTRIES ^ depth)) }
+{
+    let mut run = next_run(wants, depth, from);
+    while run.first < run.past {
+        let x = run.first;
+        if absent_from(dev, depth, x, run.past) != 0 {
+            return Some(x);
+        }
+        run = next_run(wants, depth, x + 1);
+    }
+    None
+}
+
 // How many of the cells of a depth are wanted and have no page.
-fn missing_at<D: Pm>(dev: &D, wants: &[Want], depth: u32) -> u64
+pub fn missing_at<D: Pm>(dev: &D, wants: &[Want], depth: u32) -> u64
     requires tables { AreTables (D.words dev.now) }
     requires deep { depth ≤ 4 }
     ensures exact { result ≡ missing_at_of (D.words dev.now) wants.now depth }

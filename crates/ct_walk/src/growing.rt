@@ -4,13 +4,12 @@ ghost use Rattle.ct_base.specs.Causes.{HasCause};
 ghost use Rattle.ct_base.specs.Walk.{AreTables};
 ghost use Rattle.ct_base.specs.Wants.{Want as Wanted, is_wanted, missing};
 ghost use Rattle.ct_frames.specs.Agrees.{Agrees};
-ghost use Rattle.ct_pm.specs.Device.{EachNow, LeavesOnly, MakesOnly, NothingPending, QuietOff, KeepsOthersBack, SameOff, IsIn};
+ghost use Rattle.ct_pm.specs.Device.{EachNow, LeavesOnly, MakesOnly, NothingPending, WrittenBack, QuietOff, KeepsOthersBack, SameOff, IsIn};
 ghost use Rattle.ct_walk.specs.Growth.{Extends, IsDone, Covers};
-ghost use Rattle.ct_walk.specs.Has.{Has, HasAll, HasPath, IsAmong, at_one};
+ghost use Rattle.ct_walk.specs.Has.{Has, at_one};
 ghost use Rattle.ct_walk.specs.Pages.{on_way};
 
 use crate::steps::table_at;
-use crate::wants::Want;
 use ct_base::{PAGE_BYTES, PAGE_WORDS, TABLE_ENTRIES, Vaddr};
 use ct_frames::Frames;
 use ct_pm::{Pm, PmFault, flush_lines};
@@ -24,6 +23,7 @@ fn zero_words<D: Pm>(dev: &mut D, first: u64, n: u64) -> Result<(), PmFault>
     ensures zeros { OnOk result ((k : ℕ) → k < n → slice_index (D.words dev.new) (first + k) ≡ 0) }
     ensures same { SameOff (IsIn first n) (D.words dev.new) (D.words dev.old) }
     ensures quiet { QuietOff (IsIn first n) (D.told dev.old) (D.told dev.new) }
+    ensures others { KeepsOthersBack (IsIn first n) (D.told dev.old) (D.told dev.new) }
     ensures made { MakesOnly (λ at put. IsIn first n at) (D.told dev.old) (D.told dev.new) }
     ensures cause { HasCause (D.faults dev.old) (D.faults dev.new) result }
 {
@@ -31,6 +31,21 @@ fn zero_words<D: Pm>(dev: &mut D, first: u64, n: u64) -> Result<(), PmFault>
         dev.store(first + i, 0)?;
     }
     Ok(())
+}
+
+// Fills a page with zeros, and starts to write it back.
+pub fn zero_page<D: Pm>(dev: &mut D, page: u64) -> Result<(), PmFault>
+    requires { page * PAGE_WORDS + PAGE_WORDS ≤ length (D.words dev.old) }
+    ensures zeros { OnOk result ((k : ℕ) → k < PAGE_WORDS → slice_index (D.words dev.new) (page * PAGE_WORDS + k) ≡ 0) }
+    ensures same { SameOff (IsIn (page * PAGE_WORDS) PAGE_WORDS) (D.words dev.new) (D.words dev.old) }
+    ensures quiet { QuietOff (IsIn (page * PAGE_WORDS) PAGE_WORDS) (D.told dev.old) (D.told dev.new) }
+    ensures back { OnOk result ((line : ℕ) → page * PAGE_LINES ≤ line → line < page * PAGE_LINES + PAGE_LINES → WrittenBack (D.told dev.new) line) }
+    ensures others { KeepsOthersBack (IsIn (page * PAGE_WORDS) PAGE_WORDS) (D.told dev.old) (D.told dev.new) }
+    ensures made { MakesOnly (λ at put. IsIn (page * PAGE_WORDS) PAGE_WORDS at) (D.told dev.old) (D.told dev.new) }
+    ensures cause { HasCause (D.faults dev.old) (D.faults dev.new) result }
+{
+    zero_words(dev, page * PAGE_WORDS, PAGE_WORDS)?;
+    flush_lines(dev, page * PAGE_LINES, page * PAGE_LINES + PAGE_LINES)
 }
 
 // Fills a page with zeros, and waits until they last.
@@ -43,8 +58,7 @@ fn clear_page<D: Pm>(dev: &mut D, page: u64) -> Result<(), PmFault>
     ensures made { MakesOnly (λ at put. IsIn (page * PAGE_WORDS) PAGE_WORDS at) (D.told dev.old) (D.told dev.new) }
     ensures cause { HasCause (D.faults dev.old) (D.faults dev.new) result }
 {
-    zero_words(dev, page * PAGE_WORDS, PAGE_WORDS)?;
-    flush_lines(dev, page * PAGE_LINES, page * PAGE_LINES + PAGE_LINES)?;
+    zero_page(dev, page)?;
     dev.fence()
 }
 
@@ -107,12 +121,7 @@ fn ensure_level<D: Pm>(dev: &mut D, frames: &mut Frames, n: u64, depth: u32) -> 
 }
 
 // Makes what a want of a height at one address misses.
-pub fn ensure_at<D: Pm>(
-    dev: &mut D,
-    frames: &mut Frames,
-    v: Vaddr,
-    height: u32,
-) -> Result<(), PmFault>
+fn ensure_at<D: Pm>(dev: &mut D, frames: &mut Frames, v: Vaddr, height: u32) -> Result<(), PmFault>
     requires tables { AreTables (D.words dev.old) }
     requires agrees { Agrees (D.words dev.old) frames.old }
     requires height { height ≤ 4 }
@@ -160,54 +169,4 @@ pub fn ensure<const K: u32, D: Pm>(
     ensures cause { HasCause (D.faults dev.old) (D.faults dev.new) result }
 {
     ensure_at(dev, frames, v, K)
-}
-
-// Makes what one want misses.
-fn ensure_want<D: Pm>(dev: &mut D, frames: &mut Frames, want: &Want) -> Result<(), PmFault>
-    requires tables { AreTables (D.words dev.old) }
-    requires agrees { Agrees (D.words dev.old) frames.old }
-    requires room { missing (D.words dev.old) (want.now ∷ []) ≤ length frames.old.free }
-    ensures there { OnOk result (HasPath (D.words dev.new) want.now) }
-    ensures has { OnOk result (Has (D.words dev.new) want.now) }
-    ensures extends { (wants : List Wanted) → IsAmong want.now wants →
-        Extends wants (D.words dev.old) (D.words dev.new) (D.told dev.old) (D.told dev.new) frames.old frames.new }
-    ensures done { OnOk result ((wants : List Wanted) → IsAmong want.now wants →
-        IsDone wants (D.words dev.old) (D.words dev.new) (D.told dev.old) (D.told dev.new) frames.old frames.new) }
-    ensures cause { HasCause (D.faults dev.old) (D.faults dev.new) result }
-{
-    let height = want.height();
-    let cells = want.cells(4 - height);
-    for x in cells.first..cells.past {
-        let v = want.address_in(x);
-        ensure_at(dev, frames, v, height)?;
-    }
-    Ok(())
-}
-
-/// Makes all that the wants ask for, where it is absent.
-///
-/// The pages come from `frames`, and there are exactly as many as are missing. A crash at any moment leaves well formed
-/// tables, each page that was there at its place, and each byte as it was.
-///
-/// # Errors
-///
-/// `PmFault` where the device failed. Then some of the pages may be there.
-pub fn ensure_all<D: Pm>(dev: &mut D, frames: &mut Frames, wants: &[Want]) -> Result<(), PmFault>
-    requires tables { AreTables (D.words dev.old) }
-    requires agrees { Agrees (D.words dev.old) frames.old }
-    requires room { missing (D.words dev.old) wants.now ≤ length frames.old.free }
-    ensures there { OnOk result (HasAll (D.words dev.new) wants.now) }
-    ensures taken { OnOk result (length frames.new.free + missing (D.words dev.old) wants.now ≡ length frames.old.free) }
-    ensures agrees { OnOk result (Agrees (D.words dev.new) frames.new) }
-    ensures settled { OnOk result (NothingPending (D.told dev.old) → NothingPending (D.told dev.new)) }
-
-    // The words as they read and each image of a crash have grown from the words at entry, whatever the result.
-    ensures extends { Extends wants.now (D.words dev.old) (D.words dev.new) (D.told dev.old) (D.told dev.new) frames.old frames.new }
-
-    ensures cause { HasCause (D.faults dev.old) (D.faults dev.new) result }
-{
-    for want in wants {
-        ensure_want(dev, frames, want)?;
-    }
-    Ok(())
 }

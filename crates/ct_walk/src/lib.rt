@@ -5,13 +5,15 @@
 #![tactic(auto)]
 
 mod absent;
+mod depths;
 mod growing;
 mod staging;
 mod steps;
 mod wants;
 
 pub use absent::{absent_from, has, missing};
-pub use growing::{ensure, ensure_all};
+pub use depths::ensure_all;
+pub use growing::ensure;
 pub use staging::unstage;
 pub use steps::{Table, byte_at, load_at, root, table_at, walk};
 pub use wants::Want;

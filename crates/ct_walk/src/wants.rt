@@ -1,7 +1,7 @@
 // What a call asks to be there, by ranges of addresses, and the cells on the way to them.
 ghost use Rattle.std.specs.Prelude.{◌≡◌, ℕ, ◌+◌, ◌-◌, ◌*◌, ◌/◌, ◌^◌, ◌<◌, ◌≤◌, ◌↔◌, true, List, [], ◌∷◌, ◌++◌};
-ghost use Rattle.ct_base.specs.Wants.{Want as Wanted, is_on_path};
-ghost use Rattle.ct_walk.specs.Has.{IsInRange};
+ghost use Rattle.ct_base.specs.Wants.{Want as Wanted, is_on_path, is_wanted};
+ghost use Rattle.ct_walk.specs.Has.{IsInRange, AreInRange};
 ghost use Rattle.ct_walk.specs.Runs.{IsNearest};
 
 use ct_base::{ADDRESS_END, PAGE_BYTES, TABLE_ENTRIES, Vaddr};
@@ -55,20 +55,6 @@ impl Want {
         ensures in_range { IsInRange self.now }
     {
         self.height
-    }
-
-    /// An address of the want in one of the cells on its path, at the depth of what it asks for.
-    pub fn address_in(&self, x: u64) -> Vaddr
-        requires { is_on_path (4 - self.now.height) x self.now ≡ true }
-        ensures low { self.now.at ≤ result }
-        ensures high { result < self.now.at + self.now.len }
-        ensures cell { result / (PAGE_BYTES * TABLE_ENTRIES ^ self.now.height) ≡ x }
-    {
-        let bytes = span(4 - self.height);
-        match Vaddr::new(self.at.get().max(x * bytes)) {
-            Some(v) => v,
-            None => unreachable!(),
-        }
     }
 
     /// The cells of a depth on the path of the want.
@@ -127,4 +113,17 @@ fn nearer(run: Run, want: &Want, depth: u32, from: u64) -> Run
         first,
         past: cells.past,
     }
+}
+
+/// The depth of the deepest cells that wants ask for; 0 where they ask for none but the root.
+pub fn deepest(wants: &[Want]) -> u32
+    ensures most { result ≤ 4 }
+    ensures covers { (d x : ℕ) → is_wanted wants.now d x ≡ true → d ≤ result }
+    ensures in_range { AreInRange wants.now }
+{
+    let mut depth = 0u32;
+    for want in wants {
+        depth = depth.max(4 - want.height());
+    }
+    depth
 }

@@ -1,20 +1,28 @@
 -- Bytes and words once an edit is made.
-use Rattle.std.proofs.Common.{◌≡◌, ◌≢◌, ℕ, Result, Ok, Err, ◌/◌, zero, suc, ◌+◌, ◌-◌, ◌*◌, ◌^◌, ◌%◌, ◌<◌, ◌≤◌, true, false, List, refl, sym, ap, ◌∙◌, ◌⊎◌, inl, inr, subst, arith}
-use Rattle.std.specs.Prelude.{OnOk, nat_le, nat_lt, ◌&&◌}
+use Rattle.std.proofs.Common.{◌≡◌, ◌≢◌, ℕ, Result, Ok, Err, Some, None, ◌/◌, zero, suc, ◌+◌, ◌-◌, ◌*◌, ◌^◌, ◌%◌, ◌<◌, ◌≤◌, true, false, List, length, refl, sym, ap, ◌∙◌, ◌⊎◌, inl, inr, arith}
+use Rattle.std.specs.Int.{w64, from_le_bytes, to_le_bytes}
+use Rattle.std.specs.Prelude.{OnOk, nat_le, nat_lt, ◌&&◌, slice_index, slice_set}
 use Rattle.std.proofs.lemmas.Bool.{cases_lt, le-leb, lt-ltb, leb-true, ltb-true, and_from, and_left, and_right, or_right, false_from_ne_true}
-use Rattle.std.proofs.Math.Nat.{div-div-eq-div-mul, pow-suc, pow-le-pow_right}
+use Rattle.std.proofs.lemmas.Grind.{get_or-set_at}
+use Rattle.std.proofs.lemmas.List.{ext_get_or, get_or-set_other, length-set}
+use Rattle.std.proofs.Math.Nat.{div-div-eq-div-mul, pow-suc}
 use Rattle.ct_base.specs.Inode.{little}
+use Rattle.ct_base.specs.Ranges.{eight}
 use Rattle.ct_base.specs.View.{view, is_seen}
-use Rattle.ct_base.specs.Walk.{word, page_at, byte, byte_in}
+use Rattle.ct_base.specs.Walk.{word, word_in, page_at, byte, byte_in}
+use Rattle.ct_base.specs.Words.{word_at}
 use Rattle.ct_image.proofs.Steps.{walk-cell}
+use Rattle.ct_parts.proofs.Bytes.{get-eight}
+use Rattle.ct_parts.proofs.Stand.{little-eight, little-bytes}
 use Rattle.ct_state.proofs.Bytes.{little-same}
-use Rattle.ct_state.proofs.Carry.{view-seen}
+use Rattle.ct_walk.proofs.Entries.{some_page-is, some_page-none}
+use Rattle.ct_walk.specs.Pages.{some_page}
 use Rattle.ct_words.specs.Shown.{shown_word}
-use Rattle.ct_words.proofs.Shown.{little-shown, view-small}
+use Rattle.ct_words.proofs.Shown.{little-shown, shown-fits, view-small}
 use Rattle.ct_stage.specs.declared.edit.Given.{Given}
 use Rattle.ct_stage.specs.declared.edit.Given.TheVariants.{Same}
 use Rattle.ct_stage.specs.declared.edit.Edit.{Edit}
-use Rattle.ct_stage.specs.Edited.{given_at, edited, staged_words, AreBytes}
+use Rattle.ct_stage.specs.Edited.{given_at, edited, staged_words, AreBytes, IsWordOf}
 use Rattle.ct_stage.specs.Staged.{Holds}
 
 pub edited-in : (b : ℕ → ℕ) (edit : Edit) (a : ℕ) → edit.from ≤ a → a < edit.to → edited b edit a ≡ given_at edit.given (a - edit.from)
@@ -30,22 +38,18 @@ edited-off b edit a (inr past) =
     let not : nat_lt a edit.to ≡ false = false_from_ne_true _ (λ t. omega (arith, ltb-true a edit.to t, past)) in
     rw (and_right (nat_le edit.from a) (nat_lt a edit.to) not) refl
 
-pub seen_high : (a : ℕ) → 10 * 2 ^ 39 ≤ a → a < 2 ^ 48 → is_seen a ≡ true
-seen_high a low high = or_right (nat_lt a 1099511627776) (nat_le 5497558138880 a && nat_lt a 281474976710656) (and_from _ _ (le-leb 5497558138880 a low) (lt-ltb a 281474976710656 high))
-
 -- a byte off the edit is the one that is there
-pub byte_off_edit : (img : List ℕ) (edit : Edit) (a v r : ℕ) → 10 * 2 ^ 39 ≤ a → a < 2 ^ 48 → (a < edit.from) ⊎ (edit.to ≤ a) → v ≡ a → r ≡ byte img v → r ≡ edited (view img) edit a
-byte_off_edit img edit a v r low high off at is = is ∙ ap (byte img) at ∙ sym (view-seen img a (seen_high a low high)) ∙ sym (edited-off (view img) edit a off)
+pub byte_off_edit : (b : ℕ → ℕ) (edit : Edit) (a r : ℕ) → (a < edit.from) ⊎ (edit.to ≤ a) → r ≡ b a → r ≡ edited b edit a
+byte_off_edit b edit a r off is = is ∙ sym (edited-off b edit a off)
 
 -- a byte of the edit
 pub byte_in_edit : (b : ℕ → ℕ) (edit : Edit) (given : Given) (a r : ℕ) → edit.from ≤ a → a < edit.to → edit.given ≡ given → r ≡ given_at given (a - edit.from) → r ≡ edited b edit a
 byte_in_edit b edit given a r from to is at = at ∙ ap (λ (g : Given). given_at g (a - edit.from)) (sym is) ∙ sym (edited-in b edit a from to)
 
 -- a word off the edit is the one that is there
-pub word_off_edit : (img : List ℕ) (edit : Edit) (a r : ℕ) → 10 * 2 ^ 39 ≤ a → a + 8 ≤ 2 ^ 48 → a % 8 ≡ 0 → (a + 8 ≤ edit.from) ⊎ (edit.to ≤ a) → r ≡ shown_word img a → r ≡ little (edited (view img) edit) a 8
-word_off_edit img edit a r low high aligned off is =
-    is ∙ sym (little-shown img a aligned (seen_high a low (omega arith)))
-    ∙ sym (little-same (view img) (edited (view img) edit) a a 8 (λ k lt. edited-off (view img) edit (a + k) (elim off [ inl before ↦ inl (omega (arith, before)) | inr past ↦ inr (omega (arith, past)) ])))
+pub word_off_edit : (b : ℕ → ℕ) (edit : Edit) (a r : ℕ) → (a + 8 ≤ edit.from) ⊎ (edit.to ≤ a) → r ≡ little b a 8 → r ≡ little (edited b edit) a 8
+word_off_edit b edit a r off is =
+    is ∙ sym (little-same b (edited b edit) a a 8 (λ k lt. edited-off b edit (a + k) (elim off [ inl before ↦ inl (omega (arith, before)) | inr past ↦ inr (omega (arith, past)) ])))
 
 -- a word of the edit
 pub word_in_edit : (b : ℕ → ℕ) (edit : Edit) (a at r : ℕ) → edit.from ≤ a → a + 8 ≤ edit.to → at ≡ a - edit.from → r ≡ little (given_at edit.given) at 8 → r ≡ little (edited b edit) a 8
@@ -57,37 +61,83 @@ pub same_word : (byte at : ℕ) → byte * 72340172838076673 ≡ little (given_a
 unfolding little
 same_word byte at = omega arith
 
--- the last i of eight bytes
-pub record LastBytes (f : ℕ → ℕ) (a i word : ℕ) : Type 0 where
-  pub is : word ≡ little f (a + (8 - i)) i
-  pub small : word < 256 ^ i
+-- two pages that one byte fills
+pub same_pages : (b : ℕ → ℕ) (edit : Edit) (byte at k : ℕ) → edit.given ≡ Same byte → 4096 ≤ at → edit.from ≤ at - 4096 → at + 4096 ≤ edit.to → k < 512
+    → little (edited b edit) (at - 4096 + 8 * k) 8 ≡ little (edited b edit) (at + 8 * k) 8
+same_pages b edit byte at k is low from to lt =
+    little-same (edited b edit) (edited b edit) (at + 8 * k) (at - 4096 + 8 * k) 8 (λ j small.
+    filled (at - 4096 + 8 * k + j) (omega (arith, from)) (omega (arith, to, low, lt, small)) ∙ sym (filled (at + 8 * k + j) (omega (arith, from, low)) (omega (arith, to, lt, small))))
+  where
+    filled : (a : ℕ) → edit.from ≤ a → a < edit.to → edited b edit a ≡ byte
+    filled a low high = edited-in b edit a low high ∙ ap (λ (g : Given). given_at g (a - edit.from)) is
 
-pub last_none : (f : ℕ → ℕ) (a : ℕ) → LastBytes f a 0 0
-unfolding little
-last_none f a = record { is = refl; small = omega arith }
+-- The first i of eight bytes are those once the edit is made, and the others are those of a word.
+pub record MixedTo (edit : Edit) (a old i : ℕ) (bytes : List ℕ) : Type 0 where
+  pub size : length bytes ≡ 8
+  pub done : (b : ℕ → ℕ) → IsWordOf b a old → (j : ℕ) → j < i → slice_index bytes j ≡ edited b edit (a + j)
+  pub left : (b : ℕ → ℕ) → IsWordOf b a old → (j : ℕ) → i ≤ j → j < 8 → slice_index bytes j ≡ b (a + j)
 
-pub last_fits : {f : ℕ → ℕ} {a i word : ℕ} → LastBytes f a i word → i < 8 → word * 256 + 255 < 2 ^ 64
-last_fits {i = i} {word = word} l lt =
-    let most : 256 ^ i ≤ 256 ^ 7 = pow-le-pow_right {n = 256} (omega arith) {i = i} {j = 7} (omega arith) in
-    omega (arith, l.small, most)
+pub mixed_none : (edit : Edit) (a old : ℕ) (bytes : List ℕ) → bytes ≡ to_le_bytes w64 old → MixedTo edit a old 0 bytes
+mixed_none edit a old bytes is = record {
+  size = ap length is;
+  done = λ b word j lt. absurd (omega (arith, lt));
+  left = λ b word j from lt.
+      ap (λ (l : List ℕ). slice_index l j) (is ∙ ap (to_le_bytes w64) word.1 ∙ little-bytes b a word.0) ∙ get-eight (λ t. b (a + t)) j lt;
+}
 
-little-more : (f : ℕ → ℕ) (a i : ℕ) → i < 8 → little f (a + (8 - suc i)) (suc i) ≡ f (a + (7 - i)) + 256 * little f (a + (8 - i)) i
-unfolding little
-little-more f a i lt =
-    let here : a + (8 - suc i) ≡ a + (7 - i) = omega arith in
-    let next : a + (8 - suc i) + 1 ≡ a + (8 - i) = omega arith in
-    ap (λ v. f v + 256 * little f (a + (8 - suc i) + 1) i) here ∙ ap (λ v. f (a + (7 - i)) + 256 * little f v i) next
+pub mixed_more : {edit : Edit} {a old i byte : ℕ} {bytes : List ℕ} → MixedTo edit a old i bytes → i < 8
+    → ((b : ℕ → ℕ) → slice_index bytes i ≡ b (a + i) → byte ≡ edited b edit (a + i)) → MixedTo edit a old (i + 1) (slice_set bytes i byte)
+mixed_more {edit} {a} {old} {i} {byte} {bytes} m lt here = record {
+  size = length-set bytes i byte ∙ m.size;
+  done = λ b word j below. elim (cases_lt j i) [
+    | inl before ↦ get_or-set_other bytes i j byte 0 (λ is. omega (arith, is, before)) ∙ m.done b word j before
+    | inr from ↦
+        let at : j ≡ i = omega (arith, below, from) in
+        get_or-set_at bytes i j byte 0 at (omega (arith, lt, m.size)) ∙ here b (m.left b word i (omega arith) lt) ∙ ap (λ n. edited b edit (a + n)) (sym at)
+  ];
+  left = λ b word j from below. get_or-set_other bytes i j byte 0 (λ is. omega (arith, is, from)) ∙ m.left b word j (omega (arith, from)) below;
+}
 
-pub last_more : {f : ℕ → ℕ} {a i word byte : ℕ} → LastBytes f a i word → i < 8 → byte ≡ f (a + (7 - i)) → byte < 256 → LastBytes f a (i + 1) (word * 256 + byte)
-last_more {f} {a} {i} {word} {byte} l lt is small =
-    let step : suc i ≡ i + 1 = omega arith in
-    subst (λ (n : ℕ). LastBytes f a n (word * 256 + byte)) step (record {
-      is = omega (arith, l.is, is, little-more f a i lt);
-      small = omega (arith, l.small, small, pow-suc 256 i);
-    })
+pub mixed_all : {edit : Edit} {a old r : ℕ} {bytes : List ℕ} (i : ℕ) → MixedTo edit a old i bytes → 8 ≤ i → r ≡ from_le_bytes w64 bytes
+    → (b : ℕ → ℕ) → IsWordOf b a old → r ≡ little (edited b edit) a 8
+mixed_all {edit} {a} {bytes = bytes} i m all is b word =
+    let list : bytes ≡ eight (λ t. edited b edit (a + t)) =
+    ext_get_or 0 bytes (eight (λ t. edited b edit (a + t))) m.size (λ j lt.
+    m.done b word j (omega (arith, lt, m.size, all)) ∙ sym (get-eight (λ t. edited b edit (a + t)) j (omega (arith, lt, m.size)))) in
+    is ∙ ap (from_le_bytes w64) list ∙ sym (little-eight (edited b edit) a)
 
-pub last_all : {f : ℕ → ℕ} {a word : ℕ} (i : ℕ) → LastBytes f a i word → i ≡ 8 → word ≡ little f a 8
-last_all {f} {a} i l is = l.is ∙ ap (λ n. little f (a + (8 - n)) n) is ∙ ap (λ v. little f v 8) (omega arith)
+-- ---- the words of an old page
+
+-- an address on the page of a first address
+word_on : (img : List ℕ) (at k : ℕ) → at % 4096 ≡ 0 → k < 512 → word_at img (at + 8 * k) ≡ word_in img (page_at img 4 (at / 4096)) k
+unfolding word_at
+word_on img at k aligned lt =
+    let page : (at + 8 * k) / 4096 ≡ at / 4096 = omega arith in
+    let index : (at + 8 * k) % 4096 / 8 ≡ k = omega arith in
+    ap (λ n. word_in img (page_at img 4 n) ((at + 8 * k) % 4096 / 8)) page ∙ ap (word_in img (page_at img 4 (at / 4096))) index
+
+word_in-there : (img : List ℕ) (page k : ℕ) → page ≢ 0 → word_in img page k ≡ word img (page * 512 + k)
+word_in-there img zero k ne = absurd (ne refl)
+word_in-there img (suc page) k ne = refl
+
+-- the words of the page are the words there
+pub old_there : (img : List ℕ) (at page k w : ℕ) → at % 4096 ≡ 0 → k < 512 → Some page ≡ some_page (page_at img 4 (at / 4096)) → w < 2 ^ 64 → w ≡ word img (page * 512 + k) → w ≡ shown_word img (at + 8 * k)
+old_there img at page k w aligned lt some fits is =
+    let p = some_page-is page _ some in
+    shown-fits img (at + 8 * k) w fits (is ∙ ap (λ q. word img (q * 512 + k)) (sym p.0) ∙ sym (word_in-there img _ k p.1) ∙ sym (word_on img at k aligned lt))
+
+-- without a page they are 0
+pub old_absent : (img : List ℕ) (at k w : ℕ) → at % 4096 ≡ 0 → k < 512 → None ≡ some_page (page_at img 4 (at / 4096)) → w ≡ 0 → w ≡ shown_word img (at + 8 * k)
+old_absent img at k w aligned lt none is =
+    let zero : word_at img (at + 8 * k) ≡ 0 = word_on img at k aligned lt ∙ ap (λ page. word_in img page k) (some_page-none _ none) in
+    omega (arith, is, zero)
+
+seen_high : (a : ℕ) → 10 * 2 ^ 39 ≤ a → a < 2 ^ 48 → is_seen a ≡ true
+seen_high a low high = or_right (nat_lt a 1099511627776) (nat_le 5497558138880 a && nat_lt a 281474976710656) (and_from _ _ (le-leb 5497558138880 a low) (lt-ltb a 281474976710656 high))
+
+-- a word off the staging slots is that of the bytes there
+pub old_word : (img : List ℕ) (a w : ℕ) → 10 * 2 ^ 39 ≤ a → a < 2 ^ 48 → a % 8 ≡ 0 → w ≡ shown_word img a → IsWordOf (view img) a w
+old_word img a w low high aligned is = (view-small img, is ∙ sym (little-shown img a aligned (seen_high a low high)))
 
 -- ---- the bytes of a staged page
 

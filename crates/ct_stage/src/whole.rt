@@ -13,7 +13,7 @@ ghost use Rattle.ct_pm.specs.Device.{LeavesOnly, MakesOnly, NothingPending, Same
 ghost use Rattle.ct_stage.specs.Edited.{AreBytes, AreThere, edited, staged_words};
 ghost use Rattle.ct_stage.specs.Staged.{Begun, Works, Makes, MayStage, Holds, SeesSame, IsLaid, IsResting, WaitsOnce, pages_from};
 
-use crate::edit::{Edit, edited_page};
+use crate::edit::{Edit, WORDS, turn_page};
 use crate::page::stage_page;
 use ct_base::{
     ADDRESS_END, FIRST_PAGE, PAGE_BYTES, PAGE_WORDS, PARTITION_SLOT, ROOT_WORD, SLOT_PAGES,
@@ -75,8 +75,10 @@ fn stage_pages<D: Pm>(
     ensures begun { OnOk result (Begun (D.words dev.old) (D.words dev.new) (D.told dev.old) (D.told dev.new) frames.old frames.new) }
     ensures cause { HasCause (D.faults dev.old) (D.faults dev.new) result }
 {
+    let start = side * PAGE_BYTES;
+    let mut words = [0; WORDS];
     for i in 0..count {
-        let words = edited_page(dev, edit, (side + i) * PAGE_BYTES);
+        turn_page(dev, edit, start, start + i * PAGE_BYTES, &mut words);
         stage_page(dev, frames, first + i, &words)?;
     }
     Ok(())

@@ -1,4 +1,4 @@
-ghost use Rattle.std.specs.Prelude.{◌≡◌, ◌+◌, ◌≤◌, OnOk};
+ghost use Rattle.std.specs.Prelude.{◌+◌, ◌<◌, ◌≤◌, OnOk};
 ghost use Rattle.ct_base.specs.Causes.{HasCause};
 ghost use Rattle.ct_level.specs.Any.{partition};
 ghost use Rattle.ct_record.specs.Seen.{Drafts, count_of, faults_under, pairs_of, words_under};
@@ -15,7 +15,8 @@ use ct_level::AnyPart;
 use ct_pm::{Pm, PmFault};
 use ct_record::Draft;
 
-/// Drafts that a free partition becomes live: a pair for each header word on its path, read through the draft.
+/// Drafts that a free partition becomes live: a pair for each header word on its path up to the first that stays, read
+/// through the draft.
 ///
 /// After an error the draft has some of these pairs, and is to be abandoned.
 ///
@@ -33,7 +34,8 @@ pub fn take<D: Pm>(draft: &mut Draft<D>, part: AnyPart) -> Result<(), PmFault>
     ensures maps { OnOk result (MapsAlike 1 (words_under draft.new) (drafted draft.new)) }
 
     ensures pairs { AddsPairs (NamesHeader (words_under draft.old) (partition part)) (pairs_of draft.old) (pairs_of draft.new) }
-    ensures count { OnOk result (count_of draft.new + (partition part).level ≡ count_of draft.old + MOST_WORDS) }
+    ensures some { OnOk result (count_of draft.old < count_of draft.new) }
+    ensures count { OnOk result (count_of draft.new + (partition part).level ≤ count_of draft.old + MOST_WORDS) }
     ensures drafts { Drafts draft.old draft.new }
     ensures cause { HasCause (faults_under draft.old) (faults_under draft.new) result }
 {
@@ -42,8 +44,8 @@ pub fn take<D: Pm>(draft: &mut Draft<D>, part: AnyPart) -> Result<(), PmFault>
     Ok(())
 }
 
-/// Drafts that a live partition becomes free: a pair for each header word on its path, read through the draft. What is whole
-/// and free again joins.
+/// Drafts that a live partition becomes free: a pair for each header word on its path up to the first that stays, read
+/// through the draft. What is whole and free again joins.
 ///
 /// After an error the draft has some of these pairs, and is to be abandoned.
 ///
@@ -61,7 +63,8 @@ pub fn release<D: Pm>(draft: &mut Draft<D>, part: AnyPart) -> Result<(), PmFault
     ensures maps { OnOk result (MapsAlike 1 (words_under draft.new) (drafted draft.new)) }
 
     ensures pairs { AddsPairs (NamesHeader (words_under draft.old) (partition part)) (pairs_of draft.old) (pairs_of draft.new) }
-    ensures count { OnOk result (count_of draft.new + (partition part).level ≡ count_of draft.old + MOST_WORDS) }
+    ensures some { OnOk result (count_of draft.old < count_of draft.new) }
+    ensures count { OnOk result (count_of draft.new + (partition part).level ≤ count_of draft.old + MOST_WORDS) }
     ensures drafts { Drafts draft.old draft.new }
     ensures cause { HasCause (faults_under draft.old) (faults_under draft.new) result }
 {

@@ -3,7 +3,7 @@ ghost use Rattle.std.specs.Prelude.{◌≡◌, ◌≢◌, ℕ, ◌+◌, ◌-◌,
 ghost use Rattle.std.specs.Int.{w64, from_le_bytes};
 ghost use Rattle.ct_base.specs.Causes.{HasCause};
 ghost use Rattle.ct_base.specs.Inode.{nth};
-ghost use Rattle.ct_base.specs.Ranges.{IsPartition, Headers, Changes, header_at, summary};
+ghost use Rattle.ct_base.specs.Ranges.{IsPartition, Headers, Changes, byte_shown, header_at, summary};
 ghost use Rattle.ct_base.specs.Walk.{page_at};
 ghost use Rattle.ct_base.specs.Words.{place_at};
 ghost use Rattle.ct_record.specs.Seen.{Drafts, count_of, drafted, faults_under, pairs_of, words_under};
@@ -51,7 +51,20 @@ fn set_byte<D: Pm>(draft: &mut Draft<D>, level: u32, number: u64, byte: u8) -> R
     Ok(summary_of(&bytes, level))
 }
 
-/// Drafts the header words on the path of a partition that joins the live ones or leaves them, by its new byte.
+/// The byte of a range of a level in the header word above it, after the pairs so far.
+fn byte_of<D: Pm>(draft: &Draft<D>, level: u32, number: u64) -> u8
+    requires maps { MapsAlike 1 (words_under draft.now) (drafted draft.now) }
+    requires level { level ≤ TOP_LEVEL }
+    requires number { number < TABLE_ENTRIES * 8 ^ (TOP_LEVEL - level) }
+    requires there { page_at (words_under draft.now) 4 (header_at (level + 1) (number / 8) / PAGE_BYTES) ≢ 0 }
+    ensures { result ≡ byte_shown (shown_word (drafted draft.now)) level number }
+{
+    let bytes = value_at(draft, header_address(level + 1, number / 8)).to_le_bytes();
+    bytes[(number % 8) as usize]
+}
+
+/// Drafts the header words on the path of a partition that joins the live ones or leaves them, by its new byte. They end
+/// below the first byte that stays, since then all above it stay too.
 pub fn set_path<D: Pm>(
     draft: &mut Draft<D>,
     level: u32,
@@ -70,14 +83,18 @@ pub fn set_path<D: Pm>(
     ensures maps { OnOk result (MapsAlike 1 (words_under draft.new) (drafted draft.new)) }
 
     ensures pairs { AddsPairs (NamesHeader (words_under draft.old) (nth level number)) (pairs_of draft.old) (pairs_of draft.new) }
-    ensures count { OnOk result (count_of draft.new ≡ count_of draft.old + (MOST_WORDS - level)) }
+    ensures some { OnOk result (count_of draft.old < count_of draft.new) }
+    ensures count { OnOk result (count_of draft.new ≤ count_of draft.old + (MOST_WORDS - level)) }
     ensures drafts { Drafts draft.old draft.new }
     ensures cause { HasCause (faults_under draft.old) (faults_under draft.new) result }
 {
-    let mut child = number;
-    let mut byte = byte;
-    for at in level..10 {
-        byte = set_byte(draft, at, child, byte)?;
+    let mut above = set_byte(draft, level, number, byte)?;
+    let mut child = number / 8;
+    for at in level + 1..10 {
+        if byte_of(draft, at, child) == above {
+            return Ok(());
+        }
+        above = set_byte(draft, at, child, above)?;
         child /= 8;
     }
     Ok(())

@@ -1,4 +1,5 @@
 pub mod Growths
+pub mod Kept
 pub mod Longer
 pub mod Opened
 pub mod Preparing

@@ -19,6 +19,7 @@ ghost use Rattle.ct_edit.specs.Changed.{Changes, ChangesOrNot};
 ghost use Rattle.ct_edit.specs.Edits.{IsReplaced, edit_op, task_change, task_end, task_of as task_by, task_plan as plan_of_task};
 ghost use Rattle.ct_find.specs.Files.{IsFileAt};
 ghost use Rattle.ct_edit.specs.Planned.{CanPlan};
+ghost use Rattle.ct_inode.specs.Live.{KeepsLive};
 
 use crate::edit::{Edit, Task, task_of};
 use crate::plan::{truncate_plan, write_plan};
@@ -129,6 +130,8 @@ pub fn edit_in<D: Pm>(
     ensures does { (t : Tree) → StandsFor (D.words mounted.dev) t → Does mounted t (edit_op path.now edit.entry) (Some result.0) result.1 }
     ensures places { OnOk result.1 (IsSomeAnd (ready_in (Some result.0)) (λ now. Places (D.words mounted.dev) (D.words now.dev) (edit_op path.now edit.entry))) }
     ensures alive { result.1 ≢ Err FsError.Dead }
+    // After Ok each inode that was live is live.
+    ensures live { OnOk result.1 (IsSomeAnd (ready_in (Some result.0)) (λ now. KeepsLive (D.words mounted.dev) (D.words now.dev))) }
 {
     let Mounted { dev, mut frames } = mounted;
     let (file, task, plan) = match prepare(&dev, &frames, path, edit) {

@@ -16,6 +16,7 @@ use Rattle.ct_dir.proofs.Held.{slot_high}
 use Rattle.ct_dir.proofs.Texts.{length-slot_words}
 use Rattle.ct_dir.proofs.Written.{IsWritten, is_name-length, slot_words-fit, written_inode, written_length, written_name, written_padding, written_used}
 use Rattle.ct_inode.specs.Drafted.{inode_words}
+use Rattle.ct_inode.specs.Live.{KeepsLive}
 use Rattle.ct_inode.proofs.Loaded.{kind_none, word_shown}
 use Rattle.ct_inode.proofs.Rewritten.{inode_put, view_inside, view_outside, word_inside}
 use Rattle.ct_state.proofs.Bytes.{little-same, objects-in}
@@ -272,6 +273,16 @@ module _ {old new : List ℕ} {dir : ℕ} {f : Inode} {offset : ℕ} {name : Lis
       (elim (cases_lt j number) [ inl less ↦ inl (omega arith) | inr more ↦ inr (omega (arith, other)) ])
       (elim (cases_lt dir j) [ inl less ↦ inr (omega arith) | inr more ↦ inl (omega arith) ])
       (inl (omega (arith, low))))
+
+  -- so what was live is live
+  pub live_on : KeepsLive old new
+  live_on i live =
+      let counted : inode_count new ≡ inode_count old = entry_keeps.head 3 (omega arith) in
+      let other : i ≢ number = λ is. live.used (ap (λ k. (inode (view old) k).kind) is ∙ e.unused.free) in
+      record {
+        number = record { from = live.number.from; to = omega (arith, live.number.to, counted) };
+        used = λ free. live.used (sym (kind_stays i live.number other) ∙ free);
+      }
 
   -- the directory keeps its partition
   dir_word : (k : ℕ) → 2 ≤ k → k < 4 → inode_word (view new) dir k ≡ inode_word (view old) dir k

@@ -22,6 +22,7 @@ ghost use Rattle.ct_call.specs.Plans.{Fits, level_of};
 ghost use Rattle.ct_enter.specs.Plans.{IsEntryPlan};
 ghost use Rattle.ct_call.specs.Seen.{ready_in};
 ghost use Rattle.ct_find.specs.Spots.{IsNewName, IsNextSlot};
+ghost use Rattle.ct_inode.specs.Live.{AreLiveBelow, KeepsLive};
 
 use crate::enter::enter;
 use crate::plan::entry_plan;
@@ -29,7 +30,7 @@ use ct_base::{DIRECTORY_KIND, ENTRY_BYTES, FILE_KIND, MOST_GROWTH_PAIRS};
 use ct_call::{CallPlan, FsError, Mounted, State, check_space, ended, refused, room};
 use ct_find::{Kind, Spot, find_spot};
 use ct_frames::Frames;
-use ct_inode::{first_free, get};
+use ct_inode::{first_free_from, get};
 use ct_pm::Pm;
 use ct_record::Broken;
 use ct_tree::Refusal;
@@ -37,13 +38,15 @@ use ct_tree::Refusal;
 /// The word of a device that tells how many inodes there are.
 const INODES: u64 = 3;
 
-// Where a new object's entry goes, its number, and what both take. Nothing is stored.
+// Where a new object's entry goes, its number, which is searched for from `from` on, and what both take. Nothing is stored.
 fn prepare<'p, D: Pm>(
     dev: &D,
     frames: &Frames,
     path: &'p [u8],
+    from: u64,
 ) -> Result<(Spot<'p>, u64, CallPlan), Refusal>
     requires mounted { IsMounted (D.words dev.now) (D.told dev.now) frames.now }
+    requires live { AreLiveBelow (D.words dev.now) from }
     ensures answer { (kind : Kind) (t : Tree) → StandsFor (D.words dev.now) t → IsPrepared (D.words dev.now) t (make_op kind path.now) result }
     ensures spot { IfOk result (λ found. IsNewName (D.words dev.now) path.now found.0.dir found.0.inode found.0.offset found.0.name.now) }
     ensures first { IfOk result (λ found. first_free_number (view (D.words dev.now)) (inode_count (D.words dev.now)) ≡ Some found.1) }
@@ -55,7 +58,7 @@ fn prepare<'p, D: Pm>(
         Ok(spot) => spot,
         Err(refusal) => return Err(refusal),
     };
-    let number = match first_free(dev, dev.load(INODES)) {
+    let number = match first_free_from(dev, from, dev.load(INODES)) {
         Some(number) => number,
         None => return Err(Refusal::NoInode),
     };
@@ -90,6 +93,7 @@ fn carry_out<D: Pm>(
     ensures taken { OnOk result (length frames.new.free + missing (D.words dev) plan.now.wants ≡ length frames.old.free) }
     ensures node { OnOk result (HasNode (D.words dev) (D.words (device_behind result)) spot.now.dir spot.now.name.now kind) }
     ensures counted { OnOk result (inode_count (D.words (device_behind result)) ≡ inode_count (D.words dev)) }
+    ensures live { OnOk result (KeepsLive (D.words dev) (D.words (device_behind result))) }
     ensures mounted { OnOk result (IsMounted (D.words (device_behind result)) (D.told (device_behind result)) frames.new) }
 
     // A crash at any moment lands on the objects without the new one, or on those with it.
@@ -108,20 +112,29 @@ fn carry_out<D: Pm>(
 }
 
 /// Makes an empty object of a kind at a path.
+///
+/// Every inode below `free_from` is live, and stays so: a free one is searched for from there on, and once the object is made
+/// `free_from` is its number.
 pub fn make_in<D: Pm>(
     mounted: Mounted<D>,
+    free_from: &mut u64,
     path: &[u8],
     kind: Kind,
 ) -> (State<D>, Result<(), FsError>)
+    requires live { AreLiveBelow (D.words mounted.dev) free_from.old }
     ensures does { (t : Tree) → StandsFor (D.words mounted.dev) t → Does mounted t (make_op kind path.now) (Some result.0) result.1 }
     ensures places { OnOk result.1 (IsSomeAnd (ready_in (Some result.0)) (λ now. Places (D.words mounted.dev) (D.words now.dev) (make_op kind path.now))) }
     ensures alive { result.1 ≢ Err FsError.Dead }
+    ensures below { AreLiveBelow (D.words mounted.dev) free_from.new }
+    ensures raised { OnOk result.1 (first_free_number (view (D.words mounted.dev)) (inode_count (D.words mounted.dev)) ≡ Some free_from.new) }
+    ensures live { OnOk result.1 (IsSomeAnd (ready_in (Some result.0)) (λ now. KeepsLive (D.words mounted.dev) (D.words now.dev))) }
 {
     let Mounted { dev, mut frames } = mounted;
-    let (spot, number, plan) = match prepare(&dev, &frames, path) {
+    let (spot, number, plan) = match prepare(&dev, &frames, path, *free_from) {
         Ok(found) => found,
         Err(refusal) => return refused(dev, frames, refusal),
     };
+    *free_from = number;
     let carried = carry_out(dev, &mut frames, &spot, number, &plan, kind.number());
     ended(carried, frames)
 }

@@ -15,6 +15,7 @@ ghost use Rattle.ct_enter.specs.Landing.{EntersOrNot};
 ghost use Rattle.ct_commit.specs.Rest.{IsAtRest};
 ghost use Rattle.ct_enter.specs.Entry.{HasEntry, KeepsPart, IsEntryWord, IsFreeInode, IsSizeWord, IsSpot, RaisesSize, WritesEntry};
 ghost use Rattle.ct_call.specs.Placed.{HasSlot, empty_inode};
+ghost use Rattle.ct_inode.specs.Live.{KeepsLive};
 
 use ct_base::{
     DIRECTORY_KIND, ENTRY_BYTES, FILE_KIND, INODE_BYTES, Inode, MOST_INODES, MOST_LONG_PAIRS,
@@ -117,6 +118,7 @@ pub(crate) fn enter<D: Pm>(dev: D, spot: &Spot<'_>, number: u64, kind: u64) -> R
     ensures object { OnOk result (inode_at (view (D.words (device_behind result))) number ≡ empty_inode kind) }
     ensures size { OnOk result ((inode_at (view (D.words (device_behind result))) spot.now.dir).size ≡ max spot.now.inode.size (spot.now.offset + ENTRY_BYTES)) }
     ensures part { OnOk result (KeepsPart (D.words dev) (D.words (device_behind result)) spot.now.dir) }
+    ensures live { OnOk result (KeepsLive (D.words dev) (D.words (device_behind result))) }
     ensures settled { OnOk result (NothingPending (D.told (device_behind result))) }
 
     // A crash at any moment lands on the objects without the new one, or on those with it.

@@ -4,6 +4,7 @@ pub mod Standing
 pub mod Ruled
 pub mod Recording
 pub mod Carrying
+pub mod Kept
 pub mod Nothing
 pub mod Preparing
 pub mod Told

@@ -15,6 +15,7 @@ ghost use Rattle.ct_call.specs.Answers.{IsPrepared};
 ghost use Rattle.ct_call.specs.Calls.{Does, StandsFor};
 ghost use Rattle.ct_commit.specs.Rest.{IsMounted};
 ghost use Rattle.ct_find.specs.Files.{IsFileAt};
+ghost use Rattle.ct_inode.specs.Live.{KeepsLive};
 ghost use Rattle.ct_call.specs.Placed.{Places};
 ghost use Rattle.ct_call.specs.Seen.{ready_in};
 ghost use Rattle.ct_exchange.specs.Ranges.{AreApart, wants_of};
@@ -119,6 +120,8 @@ pub fn exchange_in<D: Pm>(
     // After Ok the walks of the two ranges have changed places, and all others stay.
     ensures walks { OnOk result.1 (IsSomeAnd (ready_in (Some result.0)) (λ now. SwapsWalks (D.words mounted.dev) (D.words now.dev) path.now off other.now other_off len)) }
     ensures alive { result.1 ≢ Err FsError.Dead }
+    // After Ok each inode that was live is live.
+    ensures live { OnOk result.1 (IsSomeAnd (ready_in (Some result.0)) (λ now. KeepsLive (D.words mounted.dev) (D.words now.dev))) }
 {
     let Mounted { dev, mut frames } = mounted;
     let (ranges, plan) = match prepare(&dev, &frames, path, off, other, other_off, len) {

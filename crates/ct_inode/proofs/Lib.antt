@@ -1,3 +1,4 @@
+pub mod Live
 pub mod Loaded
 pub mod Numbers
 pub mod Rewritten

@@ -1,8 +1,8 @@
 -- The lowest number of a free inode, found in parts.
 use Rattle.std.proofs.Common.{◌≡◌, ◌≢◌, ℕ, zero, suc, ◌+◌, ◌-◌, ◌<◌, ◌≤◌, Some, None, refl, sym, ap, ◌∙◌, inl, inr, arith}
-use Rattle.std.proofs.lemmas.Bool.{cases_eq, eq-eqb, ne_eqb}
+use Rattle.std.proofs.lemmas.Bool.{cases_eq, cases_lt, eq-eqb, ne_eqb}
 use Rattle.ct_base.specs.Inode.{inode}
-use Rattle.ct_base.specs.Plan.{free_number}
+use Rattle.ct_base.specs.Plan.{first_free_number, free_number}
 
 free_now : (b : ℕ → ℕ) (n steps : ℕ) → (inode b n).kind ≡ 0 → free_number b n (suc steps) ≡ Some n
 unfolding free_number
@@ -51,3 +51,19 @@ free_behind b n (suc j) k is =
 
 pub free_split : (b : ℕ → ℕ) (n mid past : ℕ) → n ≤ mid → mid ≤ past → free_number b n (past - n) ≡ free_number b n (mid - n + (past - mid))
 free_split b n mid past low high = let sum : past - n ≡ mid - n + (past - mid) = omega arith in ap (free_number b n) sum
+
+-- where all below a number are live, it begins there
+live_step : (b : ℕ → ℕ) (n past : ℕ) → (inode b n).kind ≢ 0 → free_number b n (past - n) ≡ free_number b (n + 1) (past - (n + 1))
+live_step b n past live = elim (cases_lt n past) [
+  | inl less ↦ free_later b n past less live
+  | inr more ↦ free_end b n past more ∙ sym (free_end b (n + 1) past (omega (arith, more)))
+]
+
+pub live_below : (b : ℕ → ℕ) (count n : ℕ) → 1 ≤ n → ((i : ℕ) → 1 ≤ i → i < n → (inode b i).kind ≢ 0) → first_free_number b count ≡ free_number b n (count + 1 - n)
+live_below b count zero some live = absurd (omega arith)
+live_below b count (suc zero) some live = ap (free_number b 1) (omega arith)
+live_below b count (suc (suc n)) some live =
+    let next : suc n + 1 ≡ suc (suc n) = omega arith in
+    live_below b count (suc n) (omega arith) (λ i low high. live i low (omega (arith, high)))
+    ∙ live_step b (suc n) (count + 1) (live (suc n) (omega arith) (omega arith))
+    ∙ ap (λ m. free_number b m (count + 1 - m)) next

@@ -3,6 +3,7 @@ ghost use Rattle.std.specs.Prelude.{◌≡◌, ◌+◌, ◌-◌, ◌*◌, ◌/�
 ghost use Rattle.ct_base.specs.Plan.{first_free_number, free_number};
 ghost use Rattle.ct_base.specs.View.{view};
 ghost use Rattle.ct_base.specs.Walk.{AreTables};
+ghost use Rattle.ct_inode.specs.Live.{AreLiveBelow};
 
 use crate::read::{IN_PAGE, first_word};
 use ct_base::MOST_INODES;
@@ -37,7 +38,18 @@ pub fn first_free<D: Pm>(dev: &D, count: u64) -> Option<u64>
     requires few { count ≤ MOST_INODES }
     ensures { result ≡ first_free_number (view (D.words dev.now)) count }
 {
-    let mut n = 1;
+    first_free_from(dev, 1, count)
+}
+
+/// The same number, where every inode below `from` is live: none of these is looked at.
+pub fn first_free_from<D: Pm>(dev: &D, from: u64, count: u64) -> Option<u64>
+    requires tables { AreTables (D.words dev.now) }
+    requires live { AreLiveBelow (D.words dev.now) from }
+    requires few { count ≤ MOST_INODES }
+    ensures { result ≡ first_free_number (view (D.words dev.now)) count }
+{
+    // The inodes are numbered from 1.
+    let mut n = from.max(1);
     while n <= count {
         let past = (n / IN_PAGE * IN_PAGE + IN_PAGE).min(count + 1);
         match free_in_page(dev, n, past) {

@@ -9,5 +9,5 @@ mod free;
 mod read;
 
 pub use draft::put;
-pub use free::first_free;
+pub use free::{first_free, first_free_from};
 pub use read::{get, place};

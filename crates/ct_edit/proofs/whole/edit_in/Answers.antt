@@ -1,9 +1,11 @@
 use Rattle.std.proofs.Common.{Some}
 use Rattle.ct_record.specs.Seen.{device_behind}
 use Rattle.ct_call.specs.Placed.{Places}
-use Rattle.ct_call.proofs.Carried.{left_has, ok_three}
+use Rattle.ct_call.proofs.Carried.{left_has, ok_three, ok_two}
 use Rattle.ct_call.proofs.Resting.{does_over}
 use Rattle.ct_edit.specs.Edits.{edit_op}
+use Rattle.ct_inode.specs.Live.{KeepsLive}
+use Rattle.ct_edit.proofs.Kept.{live_on}
 use Rattle.ct_edit.proofs.Preparing.{bytes_made, changes, places}
 use Rattle.ct_edit.proofs.Rewritten.{changed_pages}
 use Rattle.ct_edit.proofs.Told.{stands_after, tree_phase}
@@ -32,3 +34,8 @@ pub returns-clause-places : goal.returns-clause-places
 returns-clause-places g c = let r = c.carry_out-carried.result in let e = c.carry_out-carried.ensures in let f = c.in-Ok.ensures in
     left_has (λ old new. Places (g.D.Pm.words old) (g.D.Pm.words new) (edit_op c.args.path.now c.args.edit)) (Some c.ended.result.0) c.carry_out-carried.result c.carry_out-carried.new.frames c.ended.result.1 c.mounted.view_is c.ended.ensures.done c.ended.ensures.left
     (ok_three r (λ moved taken free. places f.file c.args.edit f.task c.mounted.invariant.rest f.plan f.fits (g.D.Pm.words (device_behind r)) c.carry_out-carried.new.frames moved f.counted free taken) e.moved e.taken c.ended.ensures.free)
+
+pub returns-clause-live : goal.returns-clause-live
+returns-clause-live g c = let r = c.carry_out-carried.result in let e = c.carry_out-carried.ensures in
+    left_has (λ old new. KeepsLive (g.D.Pm.words old) (g.D.Pm.words new)) (Some c.ended.result.0) r c.carry_out-carried.new.frames c.ended.result.1 c.mounted.view_is c.ended.ensures.done c.ended.ensures.left
+    (ok_two r (λ counted changed. live_on c.mounted.invariant.rest c.in-Ok.ensures.file (g.D.Pm.words (device_behind r)) counted changed) e.counted e.changes)

@@ -6,6 +6,7 @@ use Rattle.ct_commit.proofs.Resting.{tables_agree, tables_unstaged}
 use Rattle.ct_enter.proofs.Lasting.{entry_phase, no_entry_phase}
 use Rattle.ct_enter.proofs.Placing.{moved_on, size_stays}
 use Rattle.ct_enter.specs.Entry.{IsSpot}
+use Rattle.ct_inode.proofs.Live.{live_same}
 use Rattle.ct_enter.proofs.EntryRoom.{asks, here_next, here_plan, inode_there, number_few, spot_there}
 use Rattle.ct_enter.proofs.create.carry_out.Goals as goal
 
@@ -51,3 +52,7 @@ returns-in-Ok-clause-size g c =
 
 pub returns-in-Ok-clause-moved : goal.returns-in-Ok-clause-moved
 returns-in-Ok-clause-moved g c level goes = moved_on (c.in_ok-dev.ensures.room.moved level goes) c.in-Ok.ensures.entry.keeps c.in-Ok.ensures.part
+
+pub returns-in-Ok-clause-live : goal.returns-in-Ok-clause-live
+returns-in-Ok-clause-live g c i live =
+    c.in-Ok.ensures.live i (live_same (g.D.Pm.words c.args.dev) (g.D.Pm.words c.in_ok-dev.dev) c.in_ok-dev.ensures.room.counted c.in_ok-dev.ensures.room.files i live)

@@ -9,7 +9,7 @@ use Rattle.ct_commit.proofs.Made.{made_done, made_ends, made_of, made_phase, mad
 use Rattle.ct_enter.specs.Entry.{IsEntryWord}
 use Rattle.ct_enter.proofs.EntryRecord.{IsAsked, Written, entered, entry_settles, entry_spares, written_stable}
 use Rattle.ct_enter.proofs.Entered.{has_entry}
-use Rattle.ct_enter.proofs.Entering.{Enters, dir_size, object_is, part_stays}
+use Rattle.ct_enter.proofs.Entering.{Enters, dir_size, live_on, object_is, part_stays}
 use Rattle.ct_enter.proofs.Slotted.{has_slot}
 use Rattle.ct_enter.proofs.enter.enter.Given.{Over}
 use Rattle.ct_enter.proofs.enter.enter.Goals as goal
@@ -61,6 +61,9 @@ returns-clause-size g c = when g c _ (λ e shut. dir_size e)
 
 pub returns-clause-part : goal.returns-clause-part
 returns-clause-part g c = when g c _ (λ e shut. part_stays e)
+
+pub returns-clause-live : goal.returns-clause-live
+returns-clause-live g c = when g c _ (λ e shut. live_on e)
 
 pub returns-clause-settled : goal.returns-clause-settled
 returns-clause-settled g c = (ends g c).settled

@@ -6,6 +6,8 @@ use Rattle.ct_call.proofs.Carried.{left_has, ok_two}
 use Rattle.ct_call.proofs.Resting.{does_over}
 use Rattle.ct_call.specs.Placed.{Places}
 use Rattle.ct_exchange.proofs.Carrying.{lands_pages}
+use Rattle.ct_inode.specs.Live.{KeepsLive}
+use Rattle.ct_exchange.proofs.Kept.{live_on}
 use Rattle.ct_exchange.proofs.Told.{exchange_places, reaches, swap_op, swaps_walks, told_phase}
 use Rattle.ct_exchange.specs.Swapped.{SwapsWalks}
 use Rattle.ct_exchange.specs.declared.plan.Ranges.{Ranges}
@@ -37,3 +39,8 @@ pub returns-clause-walks : goal.returns-clause-walks
 returns-clause-walks g c = left_has (λ old new. SwapsWalks (g.D.Pm.words old) (g.D.Pm.words new) c.args.path.now c.args.off c.args.other.now c.args.other_off c.args.len) (Some c.ended.result.0) c.carry_out-carried.result c.carry_out-carried.new.frames c.ended.result.1 c.mounted.view_is c.ended.ensures.done c.ended.ensures.left
     (on_ok_weaker c.carry_out-carried.result (λ swapped. subst (λ (r : Ranges). SwapsWalks (g.D.Pm.words c.mounted.inside.dev) (g.D.Pm.words (device_behind c.carry_out-carried.result)) c.args.path.now r.off c.args.other.now r.other_off r.len) c.in-Ok.ensures.numbers
     (swaps_walks c.mounted.invariant.rest c.args.path.now c.args.other.now c.in-Ok.found.0 c.in-Ok.ensures.first c.in-Ok.ensures.second c.in-Ok.ensures.can (g.D.Pm.words (device_behind c.carry_out-carried.result)) swapped)) c.carry_out-carried.ensures.swapped)
+
+pub returns-clause-live : goal.returns-clause-live
+returns-clause-live g c = let r = c.carry_out-carried.result in let e = c.carry_out-carried.ensures in
+    left_has (λ old new. KeepsLive (g.D.Pm.words old) (g.D.Pm.words new)) (Some c.ended.result.0) r c.carry_out-carried.new.frames c.ended.result.1 c.mounted.view_is c.ended.ensures.done c.ended.ensures.left
+    (ok_two r (λ counted swapped. live_on c.mounted.invariant.rest c.in-Ok.found.0 c.in-Ok.ensures.can (g.D.Pm.words (device_behind r)) counted swapped) e.counted e.files)

@@ -1,12 +1,11 @@
 use Rattle.std.proofs.Common.{◌≡◌, ◌≤◌, ◌+◌, ◌-◌}
 use Rattle.ct_base.specs.Plan.{first_free_number, free_number}
 use Rattle.ct_base.specs.View.{view}
-use Rattle.ct_inode.proofs.free.first_free.Given as goal
+use Rattle.ct_inode.proofs.free.first_free_from.Given as goal
 
 abbrev pub invariant-loop-n : goal.invariant-loop-n
 invariant-loop-n g l = record {
   from : 1 ≤ l.n;
-  to : l.n ≤ l.count + 1;
   found : first_free_number (view (g.D.Pm.words l.dev)) l.count ≡ free_number (view (g.D.Pm.words l.dev)) l.n (l.count + 1 - l.n);
 }
 

@@ -1,5 +1,6 @@
 pub mod Cuts
 pub mod Ends
+pub mod Feeds
 pub mod Lines
 pub mod Numbers
 pub mod Puts

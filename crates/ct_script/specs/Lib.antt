@@ -1,3 +1,4 @@
+pub mod Feed
 pub mod Grammar
 pub mod Script
 pub mod Shows

@@ -1,5 +1,5 @@
 // The calls that change the tree.
-ghost use Rattle.std.specs.Prelude.{◌≡◌, ◌≢◌, ◌↔◌, Some, Err, IsNone, IsSomeAnd, OnOk};
+ghost use Rattle.std.specs.Prelude.{◌≡◌, ◌≢◌, ◌↔◌, Some, Err, IfSome, IsNone, IsSomeAnd, OnOk};
 ghost use Rattle.ct_tree.specs.Step.{append as append_call, create as create_call, exchange as exchange_call, fill as fill_call, mkdir as mkdir_call, op_of, rename as rename_call, rmdir as rmdir_call, truncate as truncate_call, unlink as unlink_call, write as write_call};
 ghost use Rattle.ct_tree.specs.Tree.{Tree};
 ghost use Rattle.ct_call.specs.Calls.{Does, IsChange, StandsFor};
@@ -8,6 +8,7 @@ ghost use Rattle.ct_call.specs.Placed.{Places};
 ghost use Rattle.ct_exchange.specs.Swapped.{SwapsWalks};
 ghost use Rattle.ct_fs.specs.Mounts.{mounts};
 ghost use Rattle.ct_call.specs.Seen.{ready_in};
+ghost use Rattle.ct_inode.specs.Live.{AreLiveBelow};
 
 use crate::system::{Fs, put_back};
 use ct_call::{FsError, Mounted, State};
@@ -20,16 +21,24 @@ use ct_remove::remove_in;
 use ct_rename::rename_in;
 use ct_tree::Call;
 
-// Makes a call on a mount.
-fn change_in<D: Pm>(mounted: Mounted<D>, call: &Call<'_>) -> (State<D>, Result<(), FsError>)
-    requires { IsChange (op_of call.now) }
+// Makes a call on a mount. Every inode below `free_from` is live; what may free one lowers it.
+fn change_in<D: Pm>(
+    mounted: Mounted<D>,
+    free_from: &mut u64,
+    call: &Call<'_>,
+) -> (State<D>, Result<(), FsError>)
+    requires change { IsChange (op_of call.now) }
+    requires live { AreLiveBelow (D.words mounted.dev) free_from.old }
     ensures does { (t : Tree) → StandsFor (D.words mounted.dev) t → Does mounted t (op_of call.now) (Some result.0) result.1 }
     ensures places { OnOk result.1 (IsSomeAnd (ready_in (Some result.0)) (λ now. Places (D.words mounted.dev) (D.words now.dev) (op_of call.now))) }
     ensures alive { result.1 ≢ Err FsError.Dead }
+    ensures live { IfSome (ready_in (Some result.0)) (λ now. AreLiveBelow (D.words now.dev) free_from.new) }
 {
+    // Nothing is read: this tells that the words of the mount are at rest.
+    let _ = &mounted.dev;
     match *call {
-        Call::Create { path } => make_in(mounted, path, Kind::File),
-        Call::Mkdir { path } => make_in(mounted, path, Kind::Directory),
+        Call::Create { path } => make_in(mounted, free_from, path, Kind::File),
+        Call::Mkdir { path } => make_in(mounted, free_from, path, Kind::Directory),
         Call::Write { path, off, bytes } => { edit_in(mounted, path, Edit::Write { off, bytes }) }
         Call::Fill {
             path,
@@ -46,9 +55,18 @@ fn change_in<D: Pm>(mounted: Mounted<D>, call: &Call<'_>) -> (State<D>, Result<(
             other_off,
             len,
         } => exchange_in(mounted, path, off, other, other_off, len),
-        Call::Unlink { path } => remove_in(mounted, path, Kind::File),
-        Call::Rmdir { path } => remove_in(mounted, path, Kind::Directory),
-        Call::Rename { path, to } => rename_in(mounted, path, to),
+        Call::Unlink { path } => {
+            *free_from = 1;
+            remove_in(mounted, path, Kind::File)
+        }
+        Call::Rmdir { path } => {
+            *free_from = 1;
+            remove_in(mounted, path, Kind::Directory)
+        }
+        Call::Rename { path, to } => {
+            *free_from = 1;
+            rename_in(mounted, path, to)
+        }
         _ => unreachable!(),
     }
 }
@@ -75,7 +93,7 @@ impl<D: Pm> Fs<D> {
     {
         match self.state.take() {
             Some(State::Ready(mounted)) => {
-                let (state, result) = change_in(mounted, call);
+                let (state, result) = change_in(mounted, &mut self.free_from, call);
                 put_back(&mut self.state, state);
                 result
             }
@@ -213,6 +231,8 @@ impl<D: Pm> Fs<D> {
     {
         match self.state.take() {
             Some(State::Ready(mounted)) => {
+                // Nothing is read: this tells that the words of the mount are at rest.
+                let _ = &mounted.dev;
                 let (state, result) = exchange_in(mounted, path, off, other, other_off, len);
                 put_back(&mut self.state, state);
                 result

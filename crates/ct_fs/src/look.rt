@@ -1,5 +1,5 @@
 // The calls that only look at what is there.
-ghost use Rattle.std.specs.Prelude.{◌≡◌, ◌≢◌, ◌≤◌, ◌↔◌, Option, Some, Err, IsNone, IfSome, MatchOption, IfOk, OnErr, length};
+ghost use Rattle.std.specs.Prelude.{◌≡◌, ◌≢◌, ◌≤◌, ◌↔◌, Option, Some, Err, IsNone, IsSomeAnd, IfSome, MatchOption, IfOk, OnErr, length};
 ghost use Rattle.std.specs.Option.{option_map};
 ghost use Rattle.ct_dir.specs.Directory.{name_in};
 ghost use Rattle.ct_tree.specs.Checks.{at};
@@ -8,6 +8,7 @@ ghost use Rattle.ct_tree.specs.Runs.{MayLieAt};
 ghost use Rattle.ct_tree.specs.Step.{list as list_call, listed_in, locate as locate_call, read as read_call, read_limit, refusal, size_at, stat as stat_call, step};
 ghost use Rattle.ct_tree.specs.Tree.{Tree};
 ghost use Rattle.ct_call.specs.Calls.{StandsFor};
+ghost use Rattle.ct_commit.specs.Rest.{IsMounted};
 ghost use Rattle.ct_look.specs.Content.{IsRead};
 ghost use Rattle.ct_look.specs.Holes.{IsMappedAt, IsNextData};
 ghost use Rattle.ct_look.specs.Looks.{IsLook, IsPlaceAt, next_name, stat_answer};
@@ -118,6 +119,17 @@ impl<D: Pm> Fs<D> {
         match self.ready() {
             Some(mounted) => answer_of(data_at(&mounted.dev, path, off)),
             None => Err(FsError::Dead),
+        }
+    }
+
+    /// The device, at rest, unless a call has met a fault of it.
+    pub fn device(&self) -> Option<&D>
+        ensures device { MatchOption result (IsNone (mounts self.now)) (λ dev. IsSomeAnd (mounts self.now) (λ was. was.dev ≡ dev.now)) }
+        ensures rest { (was : Volume D) → mounts self.now ≡ Some was → IsMounted (D.words was.dev) (D.told was.dev) was.frames }
+    {
+        match self.ready() {
+            Some(mounted) => Some(&mounted.dev),
+            None => None,
         }
     }
 

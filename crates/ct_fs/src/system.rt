@@ -1,6 +1,9 @@
 // A mounted file system.
-ghost use Rattle.std.specs.Prelude.{◌≡◌, Some, None, IfErr, IfOk, IsSome};
+ghost use Rattle.std.specs.Prelude.{◌≡◌, Some, None, IfErr, IfOk, IfSome, IsSome};
+ghost use Rattle.ct_call.specs.Seen.{ready_in};
 ghost use Rattle.ct_commit.specs.Rest.{IsMounted};
+ghost use Rattle.ct_inode.specs.Live.{AreLiveBelow};
+ghost use Rattle.std.proofs.Props.{props};
 
 use ct_call::{Failed, Mounted, State};
 use ct_frames::Frames;
@@ -12,7 +15,10 @@ use ct_pm::Pm;
 pub struct Fs<D: Pm> {
     // `None` only while a call has the device.
     pub(crate) state: Option<State<D>>,
+    // Every inode below is live: a free one is searched for from here on.
+    pub(crate) free_from: u64,
     ghost here: { IsSome state },
+    ghost live: { IfSome (ready_in state) (λ now. AreLiveBelow (D.words now.dev) free_from) } by { Prim.hlevel props },
 }
 
 impl<D: Pm> Fs<D> {
@@ -24,6 +30,7 @@ impl<D: Pm> Fs<D> {
     {
         Fs {
             state: Some(State::Ready(mounted)),
+            free_from: 1,
         }
     }
 
@@ -31,7 +38,10 @@ impl<D: Pm> Fs<D> {
     pub fn unmount(self) -> D
         ensures { Some result ≡ device_of self }
     {
-        let Fs { state } = self;
+        let Fs {
+            state,
+            free_from: _,
+        } = self;
         match state {
             Some(State::Ready(mounted)) => {
                 let Mounted { dev, frames: _ } = mounted;
@@ -49,13 +59,24 @@ impl<D: Pm> Fs<D> {
 impl<D: Pm> Fs<D> {
     ghost use Rattle.ct_fs.specs.Mounts.{mounts, device_of};
 
+    /// The mount of a device that is at rest, with its free pages, as [`Fs::into_parts`] answers them.
+    pub fn from_parts(dev: D, frames: Frames) -> Fs<D>
+        requires rest { IsMounted (D.words dev) (D.told dev) frames }
+        ensures ready { mounts result ≡ Some (record { dev = dev; frames = frames }) }
+    {
+        Fs::of(Mounted { dev, frames })
+    }
+
     /// The device of the mount, at rest, and its free pages, or the device alone where a call met a fault of it.
     pub fn into_parts(self) -> Result<(D, Frames), D>
         ensures rest { IfOk result (λ parts. IsMounted (D.words parts.0) (D.told parts.0) parts.1) }
         ensures ready { IfOk result (λ parts. mounts self ≡ Some (record { dev = parts.0; frames = parts.1 })) }
         ensures dead { IfErr result (λ dev. (mounts self ≡ None) × (device_of self ≡ Some dev)) }
     {
-        let Fs { state } = self;
+        let Fs {
+            state,
+            free_from: _,
+        } = self;
         match state {
             Some(State::Ready(mounted)) => {
                 let Mounted { dev, frames } = mounted;

@@ -1,0 +1,4 @@
+pub mod Asking
+pub mod Mounted
+pub mod Showing
+pub mod Values

@@ -7,6 +7,8 @@
 #[cfg(test)]
 mod calls;
 #[cfg(test)]
+mod costs;
+#[cfg(test)]
 mod damage;
 #[cfg(test)]
 mod failing;

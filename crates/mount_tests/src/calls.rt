@@ -1,13 +1,9 @@
-// What calls cost on their device, what is free after them, and what they answer where something has run out.
+// What is free after calls, and what they answer where something has run out.
 ghost use Rattle.std.specs.Prelude.{◌≡◌, ◌≤◌, IfOk};
 
-use crate::script::{ENDLESS, blank};
 use ct_fs::{Fs, FsError, format};
-use ct_pm::{Pm, RamPm, Step};
-use ct_tree::{Call, Refusal};
-use pm_fuse::FusePm;
-use pm_trace::TracePm;
-use script_runs::change;
+use ct_pm::{Pm, RamPm};
+use ct_tree::Refusal;
 use std::alloc::Global;
 use std::test::Fail;
 

@@ -41,13 +41,13 @@ is_name-nonzero x is =
     name_nonzero x (and_parts (nat_lt 0 (length x) && nat_le (length x) 248 && not (bytes_eq x (46 ∷ [])) && not (bytes_eq x (46 ∷ 46 ∷ []))) (list_all (λ b. not (b == 0) && not (b == 47)) x) is).1
 
 module _ {img : List ℕ} {f : Object} {slot : Slot} (h : Holds img f slot) where
-  name_small : (k : ℕ) → get_or (slot_name f slot.offset) k 0 < 256
+  pub name_small : (k : ℕ) → get_or (slot_name f slot.offset) k 0 < 256
   name_small k = elim (cases_lt k (slot_length f slot.offset)) [
     | inl lt ↦ subst (λ b. b < 256) (sym (bytes_from-at f.at (slot.offset + 8) (slot_length f slot.offset) k lt)) (h.small (slot.offset + 8 + k))
     | inr ge ↦ subst (λ b. b < 256) (sym (get_or-end (slot_name f slot.offset) k (omega (arith, name_size h, ge)))) (omega arith)
   ]
 
-  name_word : (k : ℕ) → k < 31 → word_after img slot k ≡ little (λ j. get_or (slot_name f slot.offset) j 0) (8 * k) 8
+  pub name_word : (k : ℕ) → k < 31 → word_after img slot k ≡ little (λ j. get_or (slot_name f slot.offset) j 0) (8 * k) 8
   name_word k lt = word_is h k lt ∙ text_words f slot.offset (slot_name f slot.offset) k h.text refl lt ∙ name_words-at (slot_name f slot.offset) k lt
 
   -- what a comparison of a slot with a key says of names

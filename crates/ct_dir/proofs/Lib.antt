@@ -4,6 +4,7 @@ pub mod Held
 pub mod Matching
 pub mod Orders
 pub mod Readable
+pub mod Sorting
 pub mod Spelling
 pub mod Stepping
 pub mod Texts

@@ -31,7 +31,7 @@ cmp-alike : (a b x y : ℕ) → (a < b → x < y) → (a ≡ b → x ≡ y) → 
 cmp-alike a b x y less same greater =
     by_order (nat_cmp x y ≡ nat_cmp a b) a b (λ lt. cmp-less x y (less lt) ∙ sym (cmp-less a b lt)) (λ e. cmp-same x y (same e) ∙ sym (cmp-same a b e)) (λ gt. cmp-greater x y (greater gt) ∙ sym (cmp-greater a b gt))
 
-then_assoc : (p q r : Ordering) → ordering_then (ordering_then p q) r ≡ ordering_then p (ordering_then q r)
+pub then_assoc : (p q r : Ordering) → ordering_then (ordering_then p q) r ≡ ordering_then p (ordering_then q r)
 then_assoc Less q r = refl
 then_assoc Equal q r = refl
 then_assoc Greater q r = refl

@@ -3,3 +3,4 @@ pub mod Keys
 pub mod Nearest
 pub mod Packed
 pub mod Reading
+pub mod Sorting

@@ -6,13 +6,17 @@
 
 mod change;
 mod count;
+mod finder;
 mod lookup;
 mod names;
 mod order;
 mod slot;
 mod slots;
+mod sorted;
 
 pub use change::{clear, set, set_changed};
 pub use count::{entries, first_slot, free_slot};
+pub use finder::{Finder, OnDevice};
 pub use lookup::{Found, NameSlot, find, name_at, spot};
 pub use order::next_after;
+pub use sorted::{compare_at, sorted_offsets};

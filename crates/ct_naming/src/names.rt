@@ -1,5 +1,5 @@
 // Mount rule 18: two slots of one directory have different names.
-ghost use Rattle.std.specs.Prelude.{◌≡◌, ◌↔◌, ℕ, ◌+◌, ◌<◌, ◌≤◌, length, IfOk, IfSome, IsTrue};
+ghost use Rattle.std.specs.Prelude.{◌≡◌, ◌↔◌, ℕ, ◌+◌, ◌<◌, ◌≤◌, IfOk, IsTrue};
 ghost use Rattle.std.specs.Cmp.Lexicographic.{slice_cmp};
 ghost use Rattle.std.specs.List.Sorted.{IsSortedByKey};
 ghost use Rattle.std.specs.Ordering.{nat_cmp};
@@ -11,67 +11,16 @@ ghost use Rattle.ct_base.specs.View.{inode_count, view};
 ghost use Rattle.ct_base.specs.Walk.{AreTables, page_count};
 ghost use Rattle.ct_dir.specs.Directory.{dir_of};
 ghost use Rattle.ct_naming.specs.Slots.{Stands};
-ghost use Rattle.ct_naming.specs.Spelling.{AreNeighboursApart, AreSpelled, AreSlotsApart, IsSpelled, key, name_word, name_words, slot_place};
+ghost use Rattle.ct_naming.specs.Spelling.{AreNeighboursApart, AreSpelled, AreSlotsApart, IsSpelled, key};
 
 use crate::slot::{Slot, next_slot};
 use crate::spelled::Spelled;
-use ct_base::{
-    DIRECTORY_KIND, ENTRY_BYTES, ENTRY_WORDS, Inode, MOST_INODES, MOST_PAGES, NoMemory, PAGE_BYTES,
-    PAGE_WORDS, Vaddr,
-};
+use ct_base::{DIRECTORY_KIND, ENTRY_BYTES, Inode, MOST_INODES, MOST_PAGES, NoMemory};
+use ct_dir::compare_at;
 use ct_inode::get;
 use ct_pm::Pm;
-use ct_walk::walk;
 use std::alloc::Global;
 use std::cmp::Ordering;
-
-/// The device word of the slot at an offset of a directory; `None` exactly where its page is absent.
-fn place_of_slot<D: Pm>(dev: &D, dir: Inode, offset: u64) -> Option<u64>
-    requires tables { AreTables (D.words dev.now) }
-    ensures exact { result ≡ slot_place (D.words dev.now) dir offset }
-    ensures inside { IfSome result (λ place. place + ENTRY_WORDS ≤ length (D.words dev.now)) }
-{
-    let v = match Vaddr::new(dir.base.saturating_add(offset)) {
-        Some(v) => v,
-        None => return None,
-    };
-    let page = match walk(dev, v) {
-        Some(page) => page.number(),
-        None => return None,
-    };
-    Some(page * PAGE_WORDS + offset % PAGE_BYTES / ENTRY_BYTES * ENTRY_WORDS)
-}
-
-/// A word of the name in a slot: its length, or one of the words that hold it.
-fn word_of_name<D: Pm>(dev: &D, slot: Option<u64>, k: u64) -> u64
-    requires inside { IfSome slot (λ place. place + ENTRY_WORDS ≤ length (D.words dev.now)) }
-    requires word { k < ENTRY_WORDS }
-    ensures { result ≡ name_word (D.words dev.now) slot k }
-{
-    match slot {
-        None => 0,
-        Some(place) => {
-            let word = dev.load(place + k);
-            if k == 0 { word / (1 << 32) } else { word }
-        }
-    }
-}
-
-/// The order of the names in two slots of a directory, by all their words.
-fn compare_words<D: Pm>(dev: &D, dir: Inode, a: u64, b: u64) -> Ordering
-    requires tables { AreTables (D.words dev.now) }
-    ensures { result ≡ slice_cmp nat_cmp (name_words (D.words dev.now) dir a) (name_words (D.words dev.now) dir b) }
-{
-    let x = place_of_slot(dev, dir, a);
-    let y = place_of_slot(dev, dir, b);
-    for k in 0..ENTRY_WORDS {
-        match word_of_name(dev, x, k).cmp(&word_of_name(dev, y, k)) {
-            Ordering::Equal => {}
-            order => return order,
-        }
-    }
-    Ordering::Equal
-}
 
 /// The order of two names of a directory: the words that are kept decide, and where these are the same, all do.
 fn compare<D: Pm>(dev: &D, dir: Inode, a: &Spelled, b: &Spelled) -> Ordering
@@ -79,7 +28,7 @@ fn compare<D: Pm>(dev: &D, dir: Inode, a: &Spelled, b: &Spelled) -> Ordering
     ensures { result ≡ slice_cmp nat_cmp (key (D.words dev.now) dir a.now) (key (D.words dev.now) dir b.now) }
 {
     match a.first.cmp(&b.first) {
-        Ordering::Equal => compare_words(dev, dir, a.offset, b.offset),
+        Ordering::Equal => compare_at(dev, dir, a.offset, b.offset),
         order => order,
     }
 }
@@ -101,7 +50,7 @@ fn spelled<D: Pm>(dev: &D, dir: Inode, slot: Slot) -> Spelled
     ensures spelled { IsSpelled (D.words dev.now) dir result }
 {
     Spelled {
-        first: dev.load(slot.place + 1),
+        first: dev.load(slot.place + 1).swap_bytes(),
         offset: slot.offset,
     }
 }

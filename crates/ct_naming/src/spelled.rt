@@ -1,7 +1,7 @@
 /// The name in a slot of a directory, by what is sorted of it: the rest is read on the device.
 #[derive(Clone, Copy, Debug)]
 pub struct Spelled {
-    /// The first word of its bytes.
+    /// The first word of its bytes, the first byte highest.
     pub first: u64,
 
     /// The offset of the slot.

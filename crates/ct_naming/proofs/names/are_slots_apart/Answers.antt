@@ -25,6 +25,6 @@ returns g c =
     let kind = ap (λ (f : Inode). f.kind) c.get-dir.ensures in
     let reads = subst (IsReadable w) (sym c.get-dir.ensures) (readable w (inode_count w) c.args.n c.requires.tables c.requires.number (omega (arith, kind)) c.requires.placed c.requires.entries) in
     let list = c.in_ok-names.ensures in (
-      λ on. subst AreSlotsApart (sym is) (slots_apart reads.tables fits reads.placed reads.texts list.names list.sorted (c.are_neighbours_apart.ensures.0 on)),
-      λ apart. c.are_neighbours_apart.ensures.1 (neighbours_apart reads.tables fits reads.placed reads.texts list.names (subst AreSlotsApart is apart)),
+      λ on. subst AreSlotsApart (sym is) (slots_apart reads fits list.names list.sorted (c.are_neighbours_apart.ensures.0 on)),
+      λ apart. c.are_neighbours_apart.ensures.1 (neighbours_apart reads fits list.names (subst AreSlotsApart is apart)),
     )

@@ -1,6 +1,7 @@
 use Rattle.std.proofs.Common.{rules}
 use Rattle.ct_naming.specs.Spelling.{key}
-use Rattle.ct_naming.proofs.Spelt.{names_moved, sorted_from}
+use Rattle.ct_dir.proofs.Sorting.{sorted_from}
+use Rattle.ct_naming.proofs.Spelt.{names_moved}
 use Rattle.ct_naming.proofs.names.sorted_names.Goals as goal
 
 pub returns-clause-names : goal.returns-clause-names

@@ -1,8 +1,8 @@
 use Rattle.std.proofs.Common.{◌≡◌, ◌+◌, ◌-◌, ◌^◌, ◌<◌, ◌≤◌, ℕ, true, false, min, refl, sym, ap, ◌∙◌, inl, inr, arith}
 use Rattle.std.specs.Prelude.{Some}
 use Rattle.std.proofs.lemmas.Bool.{cases_lt, false≢true}
-use Rattle.ct_naming.proofs.Spelt.{place_inside, place_none, place_past, place_some}
-use Rattle.ct_naming.proofs.names.place_of_slot.Goals as goal
+use Rattle.ct_dir.proofs.Sorting.{place_inside, place_none, place_past, place_some}
+use Rattle.ct_dir.proofs.sorted.place_of_slot.Goals as goal
 
 pub returns-in-None-clause-exact : goal.returns-in-None-clause-exact
 returns-in-None-clause-exact g c = place_past (g.D.Pm.words c.args.dev.now) c.args.dir c.args.offset (omega (arith, c.in-None.ensures.none.0 refl, c.saturating_add.ensures))

@@ -1,8 +1,8 @@
 use Rattle.std.proofs.Common.{◌≡◌, ◌-◌}
 use Rattle.std.specs.Cmp.Lexicographic.{slice_cmp}
 use Rattle.std.specs.Ordering.{nat_cmp}
-use Rattle.ct_naming.specs.Spelling.{name_word, values}
-use Rattle.ct_naming.proofs.names.compare_words.Given as goal
+use Rattle.ct_dir.specs.Sorting.{name_word, values}
+use Rattle.ct_dir.proofs.sorted.compare_at.Given as goal
 
 abbrev pub invariant-loop-k : goal.invariant-loop-k
 invariant-loop-k g l =

@@ -1,3 +1,4 @@
+pub mod Directories
 pub mod Entries
 pub mod Files
 pub mod Kinds

@@ -16,6 +16,6 @@ pub use entry::{Entry, find_entry};
 pub use file::{find_file, find_files};
 pub use kind::Kind;
 pub use leaf::{check_kind, find_leaf};
-pub use node::find_node;
+pub use node::{find_node, find_node_by};
 pub use place::{Place, find_place};
 pub use spot::{Spot, find_spot};

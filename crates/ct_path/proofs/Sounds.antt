@@ -50,7 +50,7 @@ module _ (w : List ℕ) (sound : Sound w) (most : inode_count w ≤ 1048576) whe
   names_apart = sound names
 
   module _ (i : ℕ) (live : (files w i).kind ≢ 0) (d : Inode) (is : d ≡ inode (view w) i) where
-    dir_is : dir_of w d ≡ files w i
+    pub dir_is : dir_of w d ≡ files w i
     dir_is = ap (dir_of w) is ∙ sym (is_object i live)
 
     pub kind_is : d.kind ≡ (files w i).kind

@@ -10,4 +10,4 @@ mod way;
 
 pub use fault::{PathFault, refusal_of};
 pub use text::{Names, parse};
-pub use way::{parent_of, resolve};
+pub use way::{parent_by, parent_of, resolve, resolve_by};

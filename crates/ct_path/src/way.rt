@@ -11,7 +11,7 @@ ghost use Rattle.ct_path.specs.Resolves.{Follows, FindsParent, Resolves, Splits}
 
 use crate::{Names, PathFault, parse};
 use ct_base::{DIRECTORY_KIND, LEAST_INODES, MOST_INODES};
-use ct_dir::find;
+use ct_dir::{Finder, OnDevice};
 use ct_inode::get;
 use ct_pm::Pm;
 
@@ -19,7 +19,8 @@ use ct_pm::Pm;
 const ROOT: u64 = 1;
 
 // The inode that a name leads to from an inode.
-fn step<D: Pm>(dev: &D, number: u64, name: &[u8]) -> Result<u64, PathFault>
+fn step<D: Pm, F: Finder>(dev: &D, finder: &F, number: u64, name: &[u8]) -> Result<u64, PathFault>
+    requires known { F.agrees finder.now (D.words dev.now) }
     requires tables { AreTables (D.words dev.now) }
     requires sound { Sound (D.words dev.now) }
     requires most { inode_count (D.words dev.now) ≤ MOST_INODES }
@@ -31,14 +32,15 @@ fn step<D: Pm>(dev: &D, number: u64, name: &[u8]) -> Result<u64, PathFault>
     if dir.kind != DIRECTORY_KIND {
         return Err(PathFault::NotDir);
     }
-    match find(dev, dir, name) {
+    match finder.find(dev, number, dir, name) {
         None => Err(PathFault::NotFound),
         Some(found) => Ok(found.inode),
     }
 }
 
 // The inode that the names lead to from the root.
-fn follow<D: Pm>(dev: &D, names: Names<'_>) -> Result<u64, PathFault>
+fn follow<D: Pm, F: Finder>(dev: &D, finder: &F, names: Names<'_>) -> Result<u64, PathFault>
+    requires known { F.agrees finder.now (D.words dev.now) }
     requires tables { AreTables (D.words dev.now) }
     requires sound { Sound (D.words dev.now) }
     requires least { LEAST_INODES ≤ inode_count (D.words dev.now) }
@@ -49,18 +51,19 @@ fn follow<D: Pm>(dev: &D, names: Names<'_>) -> Result<u64, PathFault>
 {
     let mut number = ROOT;
     for name in names {
-        number = step(dev, number, name)?;
+        number = step(dev, finder, number, name)?;
     }
     Ok(number)
 }
 
-/// The inode that a path leads to.
+/// The inode that a path leads to, where one finds the entries of its names.
 ///
 /// # Errors
 ///
 /// `BadPath` where the bytes are no path; else what the first name that leads nowhere meets: `NotFound` where its directory
 /// has no such name, `NotDir` where a file stands before it.
-pub fn resolve<D: Pm>(dev: &D, path: &[u8]) -> Result<u64, PathFault>
+pub fn resolve_by<D: Pm, F: Finder>(dev: &D, finder: &F, path: &[u8]) -> Result<u64, PathFault>
+    requires known { F.agrees finder.now (D.words dev.now) }
     requires tables { AreTables (D.words dev.now) }
     requires sound { Sound (D.words dev.now) }
     requires least { LEAST_INODES ≤ inode_count (D.words dev.now) }
@@ -70,12 +73,34 @@ pub fn resolve<D: Pm>(dev: &D, path: &[u8]) -> Result<u64, PathFault>
 {
     match parse(path) {
         None => Err(PathFault::BadPath),
-        Some(names) => follow(dev, names),
+        Some(names) => follow(dev, finder, names),
     }
 }
 
+/// The inode that a path leads to.
+///
+/// # Errors
+///
+/// As [`resolve_by`].
+pub fn resolve<D: Pm>(dev: &D, path: &[u8]) -> Result<u64, PathFault>
+    requires tables { AreTables (D.words dev.now) }
+    requires sound { Sound (D.words dev.now) }
+    requires least { LEAST_INODES ≤ inode_count (D.words dev.now) }
+    requires most { inode_count (D.words dev.now) ≤ MOST_INODES }
+    ensures resolves { Resolves (files (D.words dev.now)) path.now result }
+    ensures live { IfOk result (λ i. IsLive (view (D.words dev.now)) (inode_count (D.words dev.now)) i) }
+{
+    resolve_by(dev, &OnDevice, path)
+}
+
 // The inode that all names but the last lead to, which is a directory, and the last of them.
-fn split<'p, D: Pm>(dev: &D, first: &'p [u8], rest: Names<'p>) -> Result<(u64, &'p [u8]), PathFault>
+fn split<'p, D: Pm, F: Finder>(
+    dev: &D,
+    finder: &F,
+    first: &'p [u8],
+    rest: Names<'p>,
+) -> Result<(u64, &'p [u8]), PathFault>
+    requires known { F.agrees finder.now (D.words dev.now) }
     requires tables { AreTables (D.words dev.now) }
     requires sound { Sound (D.words dev.now) }
     requires least { LEAST_INODES ≤ inode_count (D.words dev.now) }
@@ -88,7 +113,7 @@ fn split<'p, D: Pm>(dev: &D, first: &'p [u8], rest: Names<'p>) -> Result<(u64, &
     let mut number = ROOT;
     let mut last = first;
     for name in rest {
-        number = step(dev, number, last)?;
+        number = step(dev, finder, number, last)?;
         last = name;
     }
     let dir = get(dev, number);
@@ -98,12 +123,18 @@ fn split<'p, D: Pm>(dev: &D, first: &'p [u8], rest: Names<'p>) -> Result<(u64, &
     Err(PathFault::NotDir)
 }
 
-/// The inode of the directory in which a path other than `/` lies, and the last name of the path.
+/// The inode of the directory in which a path other than `/` lies, and the last name of the path, where one finds the entries of
+/// its names.
 ///
 /// # Errors
 ///
-/// As `resolve` has them for the path without its last name, and `NotDir` where that leads to a file.
-pub fn parent_of<'p, D: Pm>(dev: &D, path: &'p [u8]) -> Result<(u64, &'p [u8]), PathFault>
+/// As [`resolve_by`] has them for the path without its last name, and `NotDir` where that leads to a file.
+pub fn parent_by<'p, D: Pm, F: Finder>(
+    dev: &D,
+    finder: &F,
+    path: &'p [u8],
+) -> Result<(u64, &'p [u8]), PathFault>
+    requires known { F.agrees finder.now (D.words dev.now) }
     requires tables { AreTables (D.words dev.now) }
     requires sound { Sound (D.words dev.now) }
     requires least { LEAST_INODES ≤ inode_count (D.words dev.now) }
@@ -118,6 +149,23 @@ pub fn parent_of<'p, D: Pm>(dev: &D, path: &'p [u8]) -> Result<(u64, &'p [u8]), 
     };
     match names.next() {
         None => unreachable!(),
-        Some(first) => split(dev, first, names),
+        Some(first) => split(dev, finder, first, names),
     }
+}
+
+/// The inode of the directory in which a path other than `/` lies, and the last name of the path.
+///
+/// # Errors
+///
+/// As [`parent_by`].
+pub fn parent_of<'p, D: Pm>(dev: &D, path: &'p [u8]) -> Result<(u64, &'p [u8]), PathFault>
+    requires tables { AreTables (D.words dev.now) }
+    requires sound { Sound (D.words dev.now) }
+    requires least { LEAST_INODES ≤ inode_count (D.words dev.now) }
+    requires most { inode_count (D.words dev.now) ≤ MOST_INODES }
+    requires below { path.now ≢ 47 ∷ [] }
+    ensures splits { Splits (files (D.words dev.now)) path.now result }
+    ensures live { IfOk result (λ split. IsLive (view (D.words dev.now)) (inode_count (D.words dev.now)) split.0) }
+{
+    parent_by(dev, &OnDevice, path)
 }

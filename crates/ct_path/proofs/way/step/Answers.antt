@@ -1,4 +1,4 @@
-use Rattle.ct_path.proofs.Sounds.{from_one, to_most, readable, meets_file, meets_none, meets_slot, next_live}
+use Rattle.ct_path.proofs.Sounds.{dir_is, from_one, to_most, readable, meets_file, meets_none, meets_slot, next_live}
 use Rattle.ct_path.proofs.way.step.Goals as goal
 
 pub get-dir-requires-clause-from : goal.get-dir-requires-clause-from
@@ -11,8 +11,12 @@ pub returns-then-dir-ne-DIRECTORY_KIND-clause-meets : goal.returns-then-dir-ne-D
 returns-then-dir-ne-DIRECTORY_KIND-clause-meets g c =
     meets_file (g.D.Pm.words c.args.dev.now) c.requires.sound c.requires.most c.args.number c.requires.live c.get-dir.result c.get-dir.ensures c.if-dir-ne-DIRECTORY_KIND.true c.args.name.now
 
-pub find-requires : goal.find-requires
-find-requires g c =
+pub find-requires-clause-number : goal.find-requires-clause-number
+find-requires-clause-number g c =
+    dir_is (g.D.Pm.words c.args.dev.now) c.requires.sound c.requires.most c.args.number c.requires.live c.get-dir.result c.get-dir.ensures
+
+pub find-requires-clause-readable : goal.find-requires-clause-readable
+find-requires-clause-readable g c =
     readable (g.D.Pm.words c.args.dev.now) c.requires.sound c.requires.most c.args.number c.requires.live c.get-dir.result c.get-dir.ensures c.requires.tables c.if-dir-ne-DIRECTORY_KIND.false
 
 pub returns-in-None-clause-meets : goal.returns-in-None-clause-meets

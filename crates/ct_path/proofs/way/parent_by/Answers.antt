@@ -3,7 +3,7 @@ use Rattle.ct_tree.proofs.Ordered.{path_names}
 use Rattle.ct_path.specs.Left.{AreNames}
 use Rattle.ct_path.proofs.Answered.{split_by, has_names}
 use Rattle.ct_path.proofs.Sounds.{live_if_ok}
-use Rattle.ct_path.proofs.way.parent_of.Goals as goal
+use Rattle.ct_path.proofs.way.parent_by.Goals as goal
 
 pub returns-clause-live : goal.returns-clause-live
 returns-clause-live g c =

@@ -1,6 +1,6 @@
 use Rattle.ct_path.proofs.Answered.{resolved_by}
 use Rattle.ct_path.proofs.Sounds.{live_if_ok}
-use Rattle.ct_path.proofs.way.resolve.Goals as goal
+use Rattle.ct_path.proofs.way.resolve_by.Goals as goal
 
 pub returns-in-Some-clause-resolves : goal.returns-in-Some-clause-resolves
 returns-in-Some-clause-resolves g c =

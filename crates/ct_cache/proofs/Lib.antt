@@ -1,0 +1,4 @@
+mod Changed
+pub mod Kept
+mod Tables
+mod Told

@@ -1,0 +1,4 @@
+pub mod Agrees
+pub mod Cells
+pub mod Known
+pub mod Seen

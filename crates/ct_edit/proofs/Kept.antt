@@ -1,4 +1,4 @@
--- A change of a file's bytes leaves every object there.
+-- A change of a file's bytes leaves every object there, and each directory as it is.
 use Rattle.std.proofs.Common.{◌≡◌, ℕ, List, sym, ap, ◌∙◌, inl, inr, arith}
 use Rattle.std.proofs.lemmas.Bool.{cases_eq}
 use Rattle.ct_base.specs.declared.inode.Inode.{Inode}
@@ -10,7 +10,14 @@ use Rattle.ct_state.proofs.Landing.{sound_stands}
 use Rattle.ct_tree.specs.Lands.{files}
 use Rattle.ct_commit.specs.Rest.{IsAtRest}
 use Rattle.ct_edit.specs.Changed.{Changes}
+use Rattle.ct_find.specs.Directories.{KeepsDirectories}
 use Rattle.ct_find.specs.Files.{IsFileAt}
+
+-- a file that is found is one
+was_file : {w path : List ℕ} {i : ℕ} {f : Inode} → IsAtRest w → IsFileAt w path i f → (files w i).kind ≡ 1
+was_file {w = w} rest found =
+    let s = sound_stands w (omega (arith, rest.head.inodes.0)) rest.sound in
+    (found.node s.0 (record { tree = s.1; stands = s.2 })).2.kind
 
 module _ {w path : List ℕ} {i : ℕ} {f : Inode} {change : List ℕ → List ℕ} (rest : IsAtRest w) (found : IsFileAt w path i f) where
   -- the file is one
@@ -25,3 +32,9 @@ module _ {w path : List ℕ} {i : ℕ} {f : Inode} {change : List ℕ → List �
     | inl is ↦ omega (arith, file_kind c, ap (λ k. (files new k).kind) is, free)
     | inr other ↦ there (sym (ap (λ (o : Object). o.kind) (c.others j other)) ∙ free)
   ])
+
+  pub directories_on : (new : List ℕ) → Changes (files w) (files new) i change → KeepsDirectories w new
+  directories_on new c j dir = elim (cases_eq j i) [
+    | inl is ↦ absurd (omega (arith, was_file rest found, ap (λ k. (files w k).kind) is, dir))
+    | inr other ↦ c.others j other
+  ]

@@ -17,6 +17,7 @@ ghost use Rattle.ct_call.specs.Plans.{Fits, Plans, level_of};
 ghost use Rattle.ct_call.specs.Seen.{ready_in};
 ghost use Rattle.ct_edit.specs.Changed.{Changes, ChangesOrNot};
 ghost use Rattle.ct_edit.specs.Edits.{IsReplaced, edit_op, task_change, task_end, task_of as task_by, task_plan as plan_of_task};
+ghost use Rattle.ct_find.specs.Directories.{KeepsDirectories};
 ghost use Rattle.ct_find.specs.Files.{IsFileAt};
 ghost use Rattle.ct_edit.specs.Planned.{CanPlan};
 ghost use Rattle.ct_inode.specs.Live.{KeepsLive};
@@ -27,6 +28,7 @@ use crate::truncate::resize_file;
 use crate::write::write_file;
 use ct_base::{FILE_KIND, Inode, MOST_CALL_PAIRS};
 use ct_call::{CallPlan, FsError, Mounted, State, check_space, ended, refused};
+use ct_dir::Finder;
 use ct_find::find_file;
 use ct_frames::Frames;
 use ct_pm::Pm;
@@ -58,12 +60,14 @@ fn task_plan<D: Pm>(dev: &D, inode: Inode, task: Task<'_>) -> CallPlan
 }
 
 // The file of a call by its number, what is done to it, and what that needs. Nothing is stored.
-fn prepare<'e, D: Pm>(
+fn prepare<'e, D: Pm, F: Finder>(
     dev: &D,
+    finder: &F,
     frames: &Frames,
     path: &[u8],
     edit: Edit<'e>,
 ) -> Result<(u64, Task<'e>, CallPlan), Refusal>
+    requires known { F.agrees finder.now (D.words dev.now) }
     requires mounted { IsMounted (D.words dev.now) (D.told dev.now) frames.now }
     ensures answer { (t : Tree) → StandsFor (D.words dev.now) t → IsPrepared (D.words dev.now) t (edit_op path.now edit.entry) result }
     ensures file { IfOk result (λ found. IsFileAt (D.words dev.now) path.now found.0 (inode_at (view (D.words dev.now)) found.0)) }
@@ -74,7 +78,7 @@ fn prepare<'e, D: Pm>(
     ensures fits { IfOk result (λ found. Fits (D.words dev.now) frames.now found.2) }
     ensures counted { OnOk result ((count : ℕ) → HasFreePages (D.words dev.now) count → count ≡ length frames.now.free) }
 {
-    let (number, inode) = match find_file(dev, path) {
+    let (number, inode) = match find_file(dev, finder, path) {
         Ok(file) => file,
         Err(refusal) => return Err(refusal),
     };
@@ -122,19 +126,23 @@ fn carry_out<D: Pm>(
 
 /// Changes the bytes of the file at a path: it writes, fills, appends or sets the length. To write no bytes changes nothing,
 /// wherever they begin.
-pub fn edit_in<D: Pm>(
+pub fn edit_in<D: Pm, F: Finder>(
     mounted: Mounted<D>,
+    finder: &F,
     path: &[u8],
     edit: Edit<'_>,
 ) -> (State<D>, Result<(), FsError>)
+    requires { F.agrees finder.now (D.words mounted.dev) }
     ensures does { (t : Tree) → StandsFor (D.words mounted.dev) t → Does mounted t (edit_op path.now edit.entry) (Some result.0) result.1 }
     ensures places { OnOk result.1 (IsSomeAnd (ready_in (Some result.0)) (λ now. Places (D.words mounted.dev) (D.words now.dev) (edit_op path.now edit.entry))) }
     ensures alive { result.1 ≢ Err FsError.Dead }
     // After Ok each inode that was live is live.
     ensures live { OnOk result.1 (IsSomeAnd (ready_in (Some result.0)) (λ now. KeepsLive (D.words mounted.dev) (D.words now.dev))) }
+    // After Ok each directory is as it was.
+    ensures directories { OnOk result.1 (IsSomeAnd (ready_in (Some result.0)) (λ now. KeepsDirectories (D.words mounted.dev) (D.words now.dev))) }
 {
     let Mounted { dev, mut frames } = mounted;
-    let (file, task, plan) = match prepare(&dev, &frames, path, edit) {
+    let (file, task, plan) = match prepare(&dev, finder, &frames, path, edit) {
         Ok(found) => found,
         Err(refusal) => return refused(dev, frames, refusal),
     };

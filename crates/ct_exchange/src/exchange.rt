@@ -14,6 +14,7 @@ ghost use Rattle.ct_tree.specs.Tree.{Tree};
 ghost use Rattle.ct_call.specs.Answers.{IsPrepared};
 ghost use Rattle.ct_call.specs.Calls.{Does, StandsFor};
 ghost use Rattle.ct_commit.specs.Rest.{IsMounted};
+ghost use Rattle.ct_find.specs.Directories.{KeepsDirectories};
 ghost use Rattle.ct_find.specs.Files.{IsFileAt};
 ghost use Rattle.ct_inode.specs.Live.{KeepsLive};
 ghost use Rattle.ct_call.specs.Placed.{Places};
@@ -25,6 +26,7 @@ use crate::check::check_numbers;
 use crate::plan::Ranges;
 use ct_base::MOST_EXCHANGE_PAIRS;
 use ct_call::{CallPlan, FsError, Mounted, State, check_space, ended, make_pages, refused};
+use ct_dir::Finder;
 use ct_find::find_files;
 use ct_frames::Frames;
 use ct_inode::get;
@@ -34,8 +36,9 @@ use ct_swap::pswap_now;
 use ct_tree::Refusal;
 
 // What is exchanged and what it takes, or why it may not be. Nothing is stored.
-fn prepare<D: Pm>(
+fn prepare<D: Pm, F: Finder>(
     dev: &D,
+    finder: &F,
     frames: &Frames,
     path: &[u8],
     off: u64,
@@ -43,6 +46,7 @@ fn prepare<D: Pm>(
     other_off: u64,
     len: u64,
 ) -> Result<(Ranges, CallPlan), Refusal>
+    requires known { F.agrees finder.now (D.words dev.now) }
     requires mounted { IsMounted (D.words dev.now) (D.told dev.now) frames.now }
     ensures answer { (t : Tree) → StandsFor (D.words dev.now) t → IsPrepared (D.words dev.now) t (exchange path.now off other.now other_off len) result }
     ensures first { IfOk result (λ found. IsFileAt (D.words dev.now) path.now found.0.first (inode (view (D.words dev.now)) found.0.first)) }
@@ -54,7 +58,7 @@ fn prepare<D: Pm>(
     ensures need { IfOk result (λ found. (need : ℕ) → HasNeed (D.words dev.now) (exchange path.now off other.now other_off len) need → need ≡ missing (D.words dev.now) found.1.wants) }
     ensures counted { OnOk result ((count : ℕ) → HasFreePages (D.words dev.now) count → count ≡ length frames.now.free) }
 {
-    let (first, second) = find_files(dev, path, other)?;
+    let (first, second) = find_files(dev, finder, path, other)?;
     let size = get(dev, first).size;
     let other_size = get(dev, second).size;
     check_numbers(path, size, off, other, other_size, other_off, len)?;
@@ -107,14 +111,16 @@ fn carry_out<D: Pm>(
 }
 
 /// Exchanges `len` bytes of two files, from an offset of each on.
-pub fn exchange_in<D: Pm>(
+pub fn exchange_in<D: Pm, F: Finder>(
     mounted: Mounted<D>,
+    finder: &F,
     path: &[u8],
     off: u64,
     other: &[u8],
     other_off: u64,
     len: u64,
 ) -> (State<D>, Result<(), FsError>)
+    requires { F.agrees finder.now (D.words mounted.dev) }
     ensures does { (t : Tree) → StandsFor (D.words mounted.dev) t → Does mounted t (exchange path.now off other.now other_off len) (Some result.0) result.1 }
     ensures places { OnOk result.1 (IsSomeAnd (ready_in (Some result.0)) (λ now. Places (D.words mounted.dev) (D.words now.dev) (exchange path.now off other.now other_off len))) }
     // After Ok the walks of the two ranges have changed places, and all others stay.
@@ -122,9 +128,11 @@ pub fn exchange_in<D: Pm>(
     ensures alive { result.1 ≢ Err FsError.Dead }
     // After Ok each inode that was live is live.
     ensures live { OnOk result.1 (IsSomeAnd (ready_in (Some result.0)) (λ now. KeepsLive (D.words mounted.dev) (D.words now.dev))) }
+    // After Ok each directory is as it was.
+    ensures directories { OnOk result.1 (IsSomeAnd (ready_in (Some result.0)) (λ now. KeepsDirectories (D.words mounted.dev) (D.words now.dev))) }
 {
     let Mounted { dev, mut frames } = mounted;
-    let (ranges, plan) = match prepare(&dev, &frames, path, off, other, other_off, len) {
+    let (ranges, plan) = match prepare(&dev, finder, &frames, path, off, other, other_off, len) {
         Ok(found) => found,
         Err(refusal) => return refused(dev, frames, refusal),
     };

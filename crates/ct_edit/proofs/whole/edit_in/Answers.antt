@@ -1,11 +1,13 @@
-use Rattle.std.proofs.Common.{Some}
+use Rattle.std.proofs.Common.{Some, subst, sym}
+use Rattle.std.proofs.lemmas.Result.{on_ok_weaker}
 use Rattle.ct_record.specs.Seen.{device_behind}
 use Rattle.ct_call.specs.Placed.{Places}
 use Rattle.ct_call.proofs.Carried.{left_has, ok_three, ok_two}
 use Rattle.ct_call.proofs.Resting.{does_over}
 use Rattle.ct_edit.specs.Edits.{edit_op}
+use Rattle.ct_find.specs.Directories.{KeepsDirectories}
 use Rattle.ct_inode.specs.Live.{KeepsLive}
-use Rattle.ct_edit.proofs.Kept.{live_on}
+use Rattle.ct_edit.proofs.Kept.{directories_on, live_on}
 use Rattle.ct_edit.proofs.Preparing.{bytes_made, changes, places}
 use Rattle.ct_edit.proofs.Rewritten.{changed_pages}
 use Rattle.ct_edit.proofs.Told.{stands_after, tree_phase}
@@ -39,3 +41,11 @@ pub returns-clause-live : goal.returns-clause-live
 returns-clause-live g c = let r = c.carry_out-carried.result in let e = c.carry_out-carried.ensures in
     left_has (λ old new. KeepsLive (g.D.Pm.words old) (g.D.Pm.words new)) (Some c.ended.result.0) r c.carry_out-carried.new.frames c.ended.result.1 c.mounted.view_is c.ended.ensures.done c.ended.ensures.left
     (ok_two r (λ counted changed. live_on c.mounted.invariant.rest c.in-Ok.ensures.file (g.D.Pm.words (device_behind r)) counted changed) e.counted e.changes)
+
+pub returns-clause-directories : goal.returns-clause-directories
+returns-clause-directories g c = let r = c.carry_out-carried.result in
+    left_has (λ old new. KeepsDirectories (g.D.Pm.words old) (g.D.Pm.words new)) (Some c.ended.result.0) r c.carry_out-carried.new.frames c.ended.result.1 c.mounted.view_is c.ended.ensures.done c.ended.ensures.left
+    (on_ok_weaker r (λ changed. directories_on c.mounted.invariant.rest c.in-Ok.ensures.file (g.D.Pm.words (device_behind r)) changed) c.carry_out-carried.ensures.changes)
+
+pub prepare-requires-clause-known : goal.prepare-requires-clause-known
+prepare-requires-clause-known g c = subst (λ v. g.F.Finder.agrees c.args.finder.now (g.D.Pm.words v.dev)) (sym c.mounted.view_is) c.requires

@@ -1,4 +1,4 @@
-use Rattle.std.proofs.Common.{Some, ap, subst, arith}
+use Rattle.std.proofs.Common.{sym, Some, ap, subst, arith}
 use Rattle.std.proofs.lemmas.Result.{on_ok_weaker}
 use Rattle.ct_record.specs.Seen.{device_behind}
 use Rattle.ct_tree.specs.Step.{exchange}
@@ -6,8 +6,9 @@ use Rattle.ct_call.proofs.Carried.{left_has, ok_two}
 use Rattle.ct_call.proofs.Resting.{does_over}
 use Rattle.ct_call.specs.Placed.{Places}
 use Rattle.ct_exchange.proofs.Carrying.{lands_pages}
+use Rattle.ct_find.specs.Directories.{KeepsDirectories}
 use Rattle.ct_inode.specs.Live.{KeepsLive}
-use Rattle.ct_exchange.proofs.Kept.{live_on}
+use Rattle.ct_exchange.proofs.Kept.{directories_on, live_on}
 use Rattle.ct_exchange.proofs.Told.{exchange_places, reaches, swap_op, swaps_walks, told_phase}
 use Rattle.ct_exchange.specs.Swapped.{SwapsWalks}
 use Rattle.ct_exchange.specs.declared.plan.Ranges.{Ranges}
@@ -44,3 +45,11 @@ pub returns-clause-live : goal.returns-clause-live
 returns-clause-live g c = let r = c.carry_out-carried.result in let e = c.carry_out-carried.ensures in
     left_has (λ old new. KeepsLive (g.D.Pm.words old) (g.D.Pm.words new)) (Some c.ended.result.0) r c.carry_out-carried.new.frames c.ended.result.1 c.mounted.view_is c.ended.ensures.done c.ended.ensures.left
     (ok_two r (λ counted swapped. live_on c.mounted.invariant.rest c.in-Ok.found.0 c.in-Ok.ensures.can (g.D.Pm.words (device_behind r)) counted swapped) e.counted e.files)
+
+pub returns-clause-directories : goal.returns-clause-directories
+returns-clause-directories g c = let r = c.carry_out-carried.result in
+    left_has (λ old new. KeepsDirectories (g.D.Pm.words old) (g.D.Pm.words new)) (Some c.ended.result.0) r c.carry_out-carried.new.frames c.ended.result.1 c.mounted.view_is c.ended.ensures.done c.ended.ensures.left
+    (on_ok_weaker r (λ swapped. directories_on c.mounted.invariant.rest c.in-Ok.found.0 c.in-Ok.ensures.can (g.D.Pm.words (device_behind r)) swapped) c.carry_out-carried.ensures.files)
+
+pub prepare-requires-clause-known : goal.prepare-requires-clause-known
+prepare-requires-clause-known g c = subst (λ v. g.F.Finder.agrees c.args.finder.now (g.D.Pm.words v.dev)) (sym c.mounted.view_is) c.requires

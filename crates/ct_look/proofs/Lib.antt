@@ -1,4 +1,5 @@
 pub mod Filling
+pub mod Following
 pub mod Listed
 pub mod Looking
 pub mod Peeking

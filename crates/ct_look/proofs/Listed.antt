@@ -75,7 +75,8 @@ member_has x (entry y node rest) is = elim (or_cases (bytes_eq x y) (is_member b
   | inr more ↦ inr (member_has x rest more)
 ]
 
-names_count : (es : Entries) → length (names_in es) ≡ count es
+-- there are as many names as entries
+pub names_count : (es : Entries) → length (names_in es) ≡ count es
 names_count none = refl
 names_count (entry x node rest) = omega (arith, names_count rest)
 

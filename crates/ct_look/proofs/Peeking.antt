@@ -1,5 +1,5 @@
 -- Index steps over tables that need not be well formed.
-use Rattle.std.proofs.Common.{◌≡◌, ℕ, ◌+◌, ◌*◌, ◌/◌, ◌%◌, ◌^◌, ◌<◌, ◌≤◌, List, Option, Some, None, sym, ap, ◌∙◌, subst, inl, inr, arith}
+use Rattle.std.proofs.Common.{◌≡◌, ◌≢◌, ℕ, ◌+◌, ◌*◌, ◌/◌, ◌%◌, ◌^◌, ◌<◌, ◌≤◌, List, Option, Some, None, sym, ap, ◌∙◌, subst, inl, inr, arith}
 use Rattle.std.specs.Prelude.{IfSome}
 use Rattle.std.proofs.lemmas.Bool.{cases_eq}
 use Rattle.ct_base.specs.Walk.{word, page_count, named_page, next, index, walk}
@@ -34,6 +34,19 @@ step_there img table i (Some page) is small =
     let named = some_page-is page (next img table i) is in
     let b = next-bounds img table i named.1 in
     record { low = omega (arith, named.0, b.0); high = subst (λ p. p < page_count img) named.0 b.1; small = small }
+
+-- so is one that an entry of a word names
+pub known_there : (img : List ℕ) → ((w : ℕ) → word img w < 2 ^ 64) → (table i : ℕ) → next img table i ≢ 0 → IsOnDevice img (next img table i)
+known_there img fits table i some =
+    let b = next-bounds img table i some in
+    let entry = next-at img table i (λ none. some (ap (λ t. next img t i) none ∙ next-zero img i)) in
+    let n = named_page-bounds (page_count img) (word img (table * 512 + i)) (λ none. some (entry ∙ none)) in
+    record { low = omega (arith, b.0); high = b.1; small = omega (arith, entry, n.2, fits (table * 512 + i)) }
+
+-- and the page of a walk
+pub walk_there : (img : List ℕ) → ((w : ℕ) → word img w < 2 ^ 64) → (v page : ℕ) → page ≢ 0 → walk img v ≡ page → IsOnDevice img page
+walk_there img fits v page some is =
+    subst (IsOnDevice img) is (known_there img fits (next img (next img (next img 33 (index 4 v)) (index 3 v)) (index 2 v)) (index 1 v) (λ none. some (sym is ∙ none)))
 
 -- a walk that ends early
 module _ (img : List ℕ) (v address : ℕ) (is : address ≡ v) where

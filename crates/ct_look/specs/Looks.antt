@@ -1,19 +1,22 @@
 -- What the calls that only look answer, by the words and the tree for which they stand.
-use Rattle.std.specs.Prelude.{◌≡◌, ℕ, ◌^◌, ◌<◌, ◌≤◌, Bool, true, false, if◌then◌else◌, List, [], ◌∷◌, Option, Some, None, Ok, Err}
+use Rattle.std.specs.Prelude.{◌≡◌, ℕ, ◌^◌, ◌<◌, ◌≤◌, Bool, true, false, if◌then◌else◌, List, [], ◌∷◌, Option, Some, None, Ok, Err, All, length, map, take}
 use Rattle.std.specs.declared.result.Result.{Result}
 use Rattle.std.specs.declared.cmp.Ordering.{Ordering}
 use Rattle.std.specs.declared.cmp.Ordering.TheVariants.{Less, Equal, Greater}
 use Rattle.ct_base.specs.declared.layout.TheConstants.{ROOT_PAGE}
 use Rattle.ct_base.specs.Inode.{inode}
 use Rattle.ct_base.specs.Path.{name_cmp}
+use Rattle.ct_base.specs.Slots.{IsSlot, slot_name}
 use Rattle.ct_base.specs.View.{view}
 use Rattle.ct_base.specs.Walk.{page_count}
+use Rattle.ct_dir.specs.Directory.{IsReadable, dir_of}
 use Rattle.ct_tree.specs.Need.{IsAt}
 use Rattle.ct_tree.specs.declared.call.Refusal.{Refusal}
 use Rattle.ct_tree.specs.declared.call.Reply.{Reply}
 use Rattle.ct_tree.specs.declared.call.Reply.TheVariants.{Done, Data, File as FileOf, Dir as DirOf, Names, At, Refused as refused, BadLine}
 use Rattle.ct_call.specs.declared.mount.FsError.{FsError}
 use Rattle.ct_call.specs.declared.mount.FsError.TheVariants.{Dead, Refused, Fault}
+use Rattle.ct_look.specs.declared.seen.Listing.{Listing}
 use Rattle.ct_look.specs.declared.seen.Stat.{Stat}
 use Rattle.ct_look.specs.declared.seen.Stat.TheVariants.{File, Dir}
 
@@ -65,3 +68,13 @@ pub record IsOnDevice (img : List ℕ) (page : ℕ) : Type 0 where
   pub low : ROOT_PAGE ≤ page
   pub high : page < page_count img
   pub small : page < 2 ^ 52
+
+-- the names are those of the slots whose offsets were put at the front of the buffer, in this order; or they are more than fit
+abbrev pub IsListed : List ℕ → List (List ℕ) → List ℕ → List ℕ → Option Listing → Type 0
+IsListed img names old new None = length old < length names
+IsListed img names old new (Some listing) = names ≡ map (slot_name (dir_of img listing.dir)) (take listing.count new)
+
+-- the names of these slots can be read
+pub record AreSlots (img offsets : List ℕ) (listing : Listing) : Type 0 where
+  pub readable : IsReadable img listing.dir
+  pub slots : All (IsSlot (dir_of img listing.dir)) (take listing.count offsets)

@@ -5,8 +5,9 @@ ghost use Rattle.ct_base.specs.Walk.{byte, byte_in};
 ghost use Rattle.ct_look.specs.Content.{Fills, byte_of_word};
 ghost use Rattle.ct_look.specs.Looks.{IsOnDevice};
 
-use crate::peek::page_of;
+use crate::known::page_by;
 use ct_base::{ADDRESS_END, PAGE_BYTES, PAGE_WORDS, Vaddr};
+use ct_cache::Memory;
 use ct_pm::Pm;
 
 // Puts the eight bytes of a word into a buffer.
@@ -17,8 +18,8 @@ fn put_word(buf: &mut [u8], place: usize, word: u64)
     buf[place..place + 8].copy_from_slice(&word.to_le_bytes());
 }
 
-// Byte `o` of a page.
-fn byte_in<D: Pm>(dev: &D, page: u64, o: u64) -> u8
+/// Byte `o` of a page.
+pub(crate) fn byte_in<D: Pm>(dev: &D, page: u64, o: u64) -> u8
     requires pages { HasPages (D.words dev.now) }
     requires page { IsOnDevice (D.words dev.now) page }
     requires inside { o < PAGE_BYTES }
@@ -91,20 +92,29 @@ fn put_zeros(buf: &mut [u8], place: usize, count: usize)
 }
 
 // Puts bytes that lie in one page into a buffer, zeros where there is no page.
-fn put_page<D: Pm>(dev: &D, v: Vaddr, buf: &mut [u8], place: usize, count: usize)
+fn put_page<D: Pm, M: Memory>(
+    dev: &D,
+    memory: &M,
+    v: Vaddr,
+    buf: &mut [u8],
+    place: usize,
+    count: usize,
+)
+    requires known { M.agrees memory.now (D.words dev.now) }
     requires pages { HasPages (D.words dev.now) }
     requires inside { v % PAGE_BYTES + count ≤ PAGE_BYTES }
     requires room { place + count ≤ length buf.old }
     ensures { Fills buf.old buf.new place count (λ k. byte (D.words dev.now) (v + k)) }
 {
-    match page_of(dev, v) {
+    match page_by(dev, memory, v) {
         Some(page) => put_run(dev, page, v.get() % PAGE_BYTES, buf, place, count),
         None => put_zeros(buf, place, count),
     }
 }
 
 /// Puts the bytes from an address on at the front of a buffer.
-pub fn put_content<D: Pm>(dev: &D, from: u64, buf: &mut [u8], count: usize)
+pub fn put_content<D: Pm, M: Memory>(dev: &D, memory: &M, from: u64, buf: &mut [u8], count: usize)
+    requires known { M.agrees memory.now (D.words dev.now) }
     requires pages { HasPages (D.words dev.now) }
     requires high { from + count ≤ ADDRESS_END }
     requires room { count ≤ length buf.old }
@@ -115,7 +125,7 @@ pub fn put_content<D: Pm>(dev: &D, from: u64, buf: &mut [u8], count: usize)
         let here = from + done as u64;
         let more = (count - done).min((PAGE_BYTES - here % PAGE_BYTES) as usize);
         match Vaddr::new(here) {
-            Some(v) => put_page(dev, v, buf, done, more),
+            Some(v) => put_page(dev, memory, v, buf, done, more),
             None => unreachable!(),
         }
         done += more;

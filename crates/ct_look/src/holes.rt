@@ -13,7 +13,8 @@ ghost use Rattle.ct_tree.specs.Tree.{Tree};
 
 use crate::peek::{SECOND_SPAN, THIRD_SPAN, step};
 use ct_base::{ADDRESS_END, DIRECTORY_KIND, PAGE_BYTES, ROOT_PAGE, SLOT_SPAN, TABLE_ENTRIES};
-use ct_find::find_node;
+use ct_cache::Memory;
+use ct_find::find_node_by;
 use ct_pm::Pm;
 use ct_tree::Refusal;
 
@@ -58,13 +59,19 @@ fn next_mapped<D: Pm>(dev: &D, from: u64, end: u64) -> Option<u64>
 
 /// Where the data of the file at a path come next, from an offset on, both in bytes: at the offset itself where its page is
 /// there, and else where the next page that is there begins. `None` where none comes before the file's end.
-pub fn data_at<D: Pm>(dev: &D, path: &[u8], off: u64) -> Result<Option<u64>, Refusal>
-    requires { IsAtRest (D.words dev.now) }
+pub fn data_at<D: Pm, M: Memory>(
+    dev: &D,
+    memory: &M,
+    path: &[u8],
+    off: u64,
+) -> Result<Option<u64>, Refusal>
+    requires known { M.agrees memory.now (D.words dev.now) }
+    requires rest { IsAtRest (D.words dev.now) }
     ensures answer { (t : Tree) → StandsFor (D.words dev.now) t
         → IsLook (refusal t (locate_call path.now)) (λ found. IsNextData (bytes_in (at t path.now)) off found) (answer_of result) }
     ensures mapped { IfOk result (λ found. IfSome found (λ next. IsMappedAt (D.words dev.now) path.now next)) }
 {
-    let (_, inode) = find_node(dev, path)?;
+    let (_, inode) = find_node_by(dev, memory, path)?;
     if inode.kind == DIRECTORY_KIND {
         return Err(Refusal::IsDir);
     }

@@ -4,12 +4,16 @@
 #![tactic(auto)]
 
 mod content;
+mod entries;
 mod holes;
+mod known;
 mod look;
 mod peek;
 mod seen;
 
+pub use entries::entries_at;
 pub use holes::data_at;
+pub use known::byte_by;
 pub use look::{answer_of, locate_at, next_at, read_at, stat_at};
 pub use peek::byte_at;
-pub use seen::Stat;
+pub use seen::{Listing, Stat};

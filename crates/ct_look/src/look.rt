@@ -16,9 +16,10 @@ ghost use Rattle.ct_commit.specs.Rest.{IsAtRest};
 use crate::content::put_content;
 use crate::seen::Stat;
 use ct_base::{DIRECTORY_KIND, NameBuf};
+use ct_cache::Memory;
 use ct_call::FsError;
 use ct_dir::{entries, name_at, next_after};
-use ct_find::find_node;
+use ct_find::find_node_by;
 use ct_pm::Pm;
 use ct_tree::Refusal;
 use ct_tree::checks::READ_BYTES;
@@ -34,11 +35,12 @@ pub fn answer_of<T>(seen: Result<T, Refusal>) -> Result<T, FsError>
 }
 
 /// What is told of the object at a path.
-pub fn stat_at<D: Pm>(dev: &D, path: &[u8]) -> Result<Stat, Refusal>
-    requires { IsAtRest (D.words dev.now) }
+pub fn stat_at<D: Pm, M: Memory>(dev: &D, memory: &M, path: &[u8]) -> Result<Stat, Refusal>
+    requires known { M.agrees memory.now (D.words dev.now) }
+    requires rest { IsAtRest (D.words dev.now) }
     ensures { (t : Tree) → StandsFor (D.words dev.now) t → answer_of result ≡ stat_answer (step t (stat_call path.now)).0 }
 {
-    let (_, inode) = find_node(dev, path)?;
+    let (_, inode) = find_node_by(dev, memory, path)?;
     if inode.kind == DIRECTORY_KIND {
         return Ok(Stat::Dir {
             count: entries(dev, inode),
@@ -48,18 +50,20 @@ pub fn stat_at<D: Pm>(dev: &D, path: &[u8]) -> Result<Stat, Refusal>
 }
 
 /// The first name in the directory at a path that is later than another, or of all.
-pub fn next_at<D: Pm>(
+pub fn next_at<D: Pm, M: Memory>(
     dev: &D,
+    memory: &M,
     path: &[u8],
     after: Option<&[u8]>,
 ) -> Result<Option<NameBuf>, Refusal>
-    requires { IsAtRest (D.words dev.now) }
+    requires known { M.agrees memory.now (D.words dev.now) }
+    requires rest { IsAtRest (D.words dev.now) }
     ensures { (t : Tree) → StandsFor (D.words dev.now) t
         → IsLook (refusal t (list_call path.now))
         (λ found. option_map (λ name. name.items) found ≡ next_name (name_in after.entry) (listed_in (at t path.now)))
         (answer_of result) }
 {
-    let (_, inode) = find_node(dev, path)?;
+    let (_, inode) = find_node_by(dev, memory, path)?;
     if inode.kind != DIRECTORY_KIND {
         return Err(Refusal::NotDir);
     }
@@ -70,14 +74,15 @@ pub fn next_at<D: Pm>(
 }
 
 /// The address and the level of the partition of the file at a path.
-pub fn locate_at<D: Pm>(dev: &D, path: &[u8]) -> Result<(u64, u32), Refusal>
-    requires { IsAtRest (D.words dev.now) }
+pub fn locate_at<D: Pm, M: Memory>(dev: &D, memory: &M, path: &[u8]) -> Result<(u64, u32), Refusal>
+    requires known { M.agrees memory.now (D.words dev.now) }
+    requires rest { IsAtRest (D.words dev.now) }
     ensures { (t : Tree) → StandsFor (D.words dev.now) t
         → IsLook (refusal t (locate_call path.now))
         (λ place. IsPlaceAt (D.words dev.now) path.now place × MayLieAt (size_at t path.now) place.0 place.1)
         (answer_of result) }
 {
-    let (_, inode) = find_node(dev, path)?;
+    let (_, inode) = find_node_by(dev, memory, path)?;
     if inode.kind == DIRECTORY_KIND {
         return Err(Refusal::IsDir);
     }
@@ -85,13 +90,15 @@ pub fn locate_at<D: Pm>(dev: &D, path: &[u8]) -> Result<(u64, u32), Refusal>
 }
 
 /// Puts the bytes of the file at a path, from an offset on and at most so many, at the front of a buffer; answers their number.
-pub fn read_at<D: Pm>(
+pub fn read_at<D: Pm, M: Memory>(
     dev: &D,
+    memory: &M,
     path: &[u8],
     off: u64,
     len: u64,
     buf: &mut [u8],
 ) -> Result<u64, Refusal>
+    requires known { M.agrees memory.now (D.words dev.now) }
     requires rest { IsAtRest (D.words dev.now) }
     requires room { len ≤ read_limit → len ≤ length buf.old }
     ensures answer { (t : Tree) → StandsFor (D.words dev.now) t
@@ -99,7 +106,7 @@ pub fn read_at<D: Pm>(
     ensures bound { IfOk result (λ count. count ≤ length buf.old) }
     ensures kept { OnErr result (buf.new ≡ buf.old) }
 {
-    let (_, inode) = find_node(dev, path)?;
+    let (_, inode) = find_node_by(dev, memory, path)?;
     if inode.kind == DIRECTORY_KIND {
         return Err(Refusal::IsDir);
     }
@@ -110,6 +117,6 @@ pub fn read_at<D: Pm>(
         return Ok(0);
     }
     let count = len.min(inode.size - off);
-    put_content(dev, inode.base + off, buf, count as usize);
+    put_content(dev, memory, inode.base + off, buf, count as usize);
     Ok(count)
 }

@@ -8,65 +8,58 @@ ghost use Rattle.ct_call.specs.Placed.{Places};
 ghost use Rattle.ct_exchange.specs.Swapped.{SwapsWalks};
 ghost use Rattle.ct_fs.specs.Mounts.{mounts};
 ghost use Rattle.ct_call.specs.Seen.{ready_in};
-ghost use Rattle.ct_inode.specs.Live.{AreLiveBelow};
+ghost use Rattle.ct_fs.specs.Remembering.{IsRemembered};
 
+use crate::calls::{edit_by, exchange_by, make_by, remove_by, rename_by};
+use crate::remembered::Remembered;
 use crate::system::{Fs, put_back};
 use ct_call::{FsError, Mounted, State};
-use ct_edit::{Edit, edit_in};
-use ct_enter::make_in;
-use ct_exchange::exchange_in;
+use ct_edit::Edit;
 use ct_find::Kind;
 use ct_pm::Pm;
-use ct_remove::remove_in;
-use ct_rename::rename_in;
 use ct_tree::Call;
 
-// Makes a call on a mount. Every inode below `free_from` is live; what may free one lowers it.
+// Makes a call on a mount.
 fn change_in<D: Pm>(
     mounted: Mounted<D>,
-    free_from: &mut u64,
+    remembered: &mut Remembered,
     call: &Call<'_>,
 ) -> (State<D>, Result<(), FsError>)
     requires change { IsChange (op_of call.now) }
-    requires live { AreLiveBelow (D.words mounted.dev) free_from.old }
+    requires so { IsRemembered (D.words mounted.dev) remembered.old }
     ensures does { (t : Tree) → StandsFor (D.words mounted.dev) t → Does mounted t (op_of call.now) (Some result.0) result.1 }
     ensures places { OnOk result.1 (IsSomeAnd (ready_in (Some result.0)) (λ now. Places (D.words mounted.dev) (D.words now.dev) (op_of call.now))) }
     ensures alive { result.1 ≢ Err FsError.Dead }
-    ensures live { IfSome (ready_in (Some result.0)) (λ now. AreLiveBelow (D.words now.dev) free_from.new) }
+    ensures so { IfSome (ready_in (Some result.0)) (λ now. IsRemembered (D.words now.dev) remembered.new) }
 {
-    // Nothing is read: this tells that the words of the mount are at rest.
-    let _ = &mounted.dev;
     match *call {
-        Call::Create { path } => make_in(mounted, free_from, path, Kind::File),
-        Call::Mkdir { path } => make_in(mounted, free_from, path, Kind::Directory),
-        Call::Write { path, off, bytes } => { edit_in(mounted, path, Edit::Write { off, bytes }) }
+        Call::Create { path } => make_by(mounted, remembered, path, Kind::File),
+        Call::Mkdir { path } => make_by(mounted, remembered, path, Kind::Directory),
+        Call::Write { path, off, bytes } => {
+            edit_by(mounted, remembered, path, Edit::Write { off, bytes })
+        }
         Call::Fill {
             path,
             off,
             len,
             byte,
-        } => edit_in(mounted, path, Edit::Fill { off, len, byte }),
-        Call::Append { path, bytes } => edit_in(mounted, path, Edit::Append { bytes }),
-        Call::Truncate { path, len } => edit_in(mounted, path, Edit::Truncate { len }),
+        } => edit_by(mounted, remembered, path, Edit::Fill { off, len, byte }),
+        Call::Append { path, bytes } => {
+            edit_by(mounted, remembered, path, Edit::Append { bytes })
+        }
+        Call::Truncate { path, len } => {
+            edit_by(mounted, remembered, path, Edit::Truncate { len })
+        }
         Call::Exchange {
             path,
             off,
             other,
             other_off,
             len,
-        } => exchange_in(mounted, path, off, other, other_off, len),
-        Call::Unlink { path } => {
-            *free_from = 1;
-            remove_in(mounted, path, Kind::File)
-        }
-        Call::Rmdir { path } => {
-            *free_from = 1;
-            remove_in(mounted, path, Kind::Directory)
-        }
-        Call::Rename { path, to } => {
-            *free_from = 1;
-            rename_in(mounted, path, to)
-        }
+        } => exchange_by(mounted, remembered, path, off, other, other_off, len),
+        Call::Unlink { path } => remove_by(mounted, remembered, path, Kind::File),
+        Call::Rmdir { path } => remove_by(mounted, remembered, path, Kind::Directory),
+        Call::Rename { path, to } => rename_by(mounted, remembered, path, to),
         _ => unreachable!(),
     }
 }
@@ -93,7 +86,7 @@ impl<D: Pm> Fs<D> {
     {
         match self.state.take() {
             Some(State::Ready(mounted)) => {
-                let (state, result) = change_in(mounted, &mut self.free_from, call);
+                let (state, result) = change_in(mounted, &mut self.remembered, call);
                 put_back(&mut self.state, state);
                 result
             }
@@ -231,9 +224,15 @@ impl<D: Pm> Fs<D> {
     {
         match self.state.take() {
             Some(State::Ready(mounted)) => {
-                // Nothing is read: this tells that the words of the mount are at rest.
-                let _ = &mounted.dev;
-                let (state, result) = exchange_in(mounted, path, off, other, other_off, len);
+                let (state, result) = exchange_by(
+                    mounted,
+                    &mut self.remembered,
+                    path,
+                    off,
+                    other,
+                    other_off,
+                    len,
+                );
                 put_back(&mut self.state, state);
                 result
             }

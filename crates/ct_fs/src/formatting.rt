@@ -1,5 +1,5 @@
 // The file system of an empty tree.
-ghost use Rattle.std.specs.Prelude.{◌≡◌, ◌≢◌, ◌⊎◌, ◌↔◌, ℕ, [], ◌∷◌, ◌-◌, ◌*◌, ◌<◌, ◌≤◌, IfOk, IfErr, IsSomeAnd, OnOk, OnErr, Some, length, slice_set};
+ghost use Rattle.std.specs.Prelude.{◌≡◌, ◌≢◌, ◌⊎◌, ◌↔◌, ℕ, List, [], ◌∷◌, ◌-◌, ◌*◌, ◌<◌, ◌≤◌, IfNone, IfOk, IfErr, IfSome, IsSomeAnd, OnOk, OnErr, Some, length, slice_set};
 ghost use Rattle.ct_base.specs.Causes.{HasCause, Rose};
 ghost use Rattle.ct_base.specs.Format.{IsFormatted};
 ghost use Rattle.ct_pm.specs.Device.{LeavesOnly, MakesOnly, NothingPending, SameOff, with_steps};
@@ -8,17 +8,34 @@ ghost use Rattle.ct_tree.specs.Tree.{Dir, none};
 ghost use Rattle.ct_call.specs.Calls.{Keeps};
 ghost use Rattle.ct_call.specs.declared.mount.Why.{Why};
 ghost use Rattle.ct_format.specs.Made.{IsMissized, IsNew, image_dev, why_not};
+ghost use Rattle.ct_learn.specs.Learning.{IsSo};
 ghost use Rattle.ct_fs.specs.Mounts.{dev_after};
 ghost use Rattle.ct_fs.specs.Mounts.{fs_dev, mounts};
 ghost use Rattle.ct_pm.specs.declared.step.Step.TheVariants.{Store, Flush};
 ghost use Rattle.ct_format.specs.Formatting.{Formats, HasWords, IsFormatImage, IsFormatWord, IsGate, IsHeadWord, IsLaidOut, IsTableWord, Laid, Lays, Makes, format_word, magic_steps};
 
 use crate::system::Fs;
-use ct_base::{LEAST_INODES, MOST_INODES};
-use ct_call::NoMount;
+use ct_base::{LEAST_INODES, LEAST_PAGES, MOST_INODES, MOST_PAGES};
+use ct_cache::Caches;
+use ct_call::{NoMount, Why};
 use ct_format::make_image;
+use ct_learn::Learnt;
 use ct_pm::Pm;
 use std::alloc::Global;
+
+// Memory for what is learnt of a device of a lawful size; `None` where it ran out.
+fn learnt_for(alloc: Global, pages: u64) -> Option<Learnt>
+    ensures so { IfSome result (λ learnt. (words : List ℕ) → IsSo learnt words) }
+    ensures sized { IfNone result (IsMissized pages → ⊥) }
+{
+    if pages < LEAST_PAGES || pages > MOST_PAGES {
+        return Some(Learnt::nothing());
+    }
+    match Caches::new(alloc) {
+        Ok(caches) => Some(Learnt::within(caches)),
+        Err(_) => None,
+    }
+}
 
 /// Makes a file system with an empty root directory of all pages of a device, with so many inodes.
 ///
@@ -54,8 +71,14 @@ pub fn format<D: Pm>(alloc: Global, dev: D, inodes: u64) -> Result<Fs<D>, NoMoun
     // So do the words as they read, at Ok and at a fault.
     ensures reads { IsFormatImage (D.words dev) (D.words (dev_after result)) }
 {
+    let Some(learnt) = learnt_for(alloc, dev.pages()) else {
+        return Err(NoMount {
+            dev,
+            why: Why::Memory,
+        });
+    };
     match make_image(alloc, dev, inodes) {
-        Ok(made) => Ok(Fs::of(made)),
+        Ok(made) => Ok(Fs::of(made, learnt)),
         Err(no_mount) => Err(no_mount),
     }
 }

@@ -13,13 +13,14 @@ ghost use Rattle.ct_look.specs.Content.{IsRead};
 ghost use Rattle.ct_look.specs.Holes.{IsMappedAt, IsNextData};
 ghost use Rattle.ct_look.specs.Looks.{IsLook, IsPlaceAt, next_name, stat_answer};
 ghost use Rattle.ct_call.specs.Mounted.{Volume};
+ghost use Rattle.ct_learn.specs.Learning.{IsSo};
 ghost use Rattle.ct_base.specs.Walk.{byte};
 ghost use Rattle.ct_fs.specs.Mounts.{device_of, mounts};
 
 use crate::system::Fs;
 use ct_base::{NameBuf, Vaddr};
 use ct_call::{FsError, Mounted, State};
-use ct_look::{Stat, answer_of, byte_at, data_at, locate_at, next_at, read_at, stat_at};
+use ct_look::{Stat, answer_of, byte_at, byte_by, data_at, locate_at, next_at, read_at, stat_at};
 use ct_pm::Pm;
 
 impl<D: Pm> Fs<D> {
@@ -35,7 +36,7 @@ impl<D: Pm> Fs<D> {
             → result ≡ stat_answer (step t (stat_call path.now)).0 }
     {
         match self.ready() {
-            Some(mounted) => answer_of(stat_at(&mounted.dev, path)),
+            Some(mounted) => answer_of(stat_at(&mounted.dev, &self.remembered.learnt, path)),
             None => Err(FsError::Dead),
         }
     }
@@ -54,7 +55,7 @@ impl<D: Pm> Fs<D> {
             result }
     {
         match self.ready() {
-            Some(mounted) => answer_of(next_at(&mounted.dev, path, after)),
+            Some(mounted) => answer_of(next_at(&mounted.dev, &self.remembered.learnt, path, after)),
             None => Err(FsError::Dead),
         }
     }
@@ -72,7 +73,7 @@ impl<D: Pm> Fs<D> {
             (λ place. IsPlaceAt (D.words was.dev) path.now place × MayLieAt (size_at t path.now) place.0 place.1) result }
     {
         match self.ready() {
-            Some(mounted) => answer_of(locate_at(&mounted.dev, path)),
+            Some(mounted) => answer_of(locate_at(&mounted.dev, &self.remembered.learnt, path)),
             None => Err(FsError::Dead),
         }
     }
@@ -94,7 +95,14 @@ impl<D: Pm> Fs<D> {
         ensures kept { OnErr result (buf.new ≡ buf.old) }
     {
         match self.ready() {
-            Some(mounted) => answer_of(read_at(&mounted.dev, path, off, len, buf)),
+            Some(mounted) => answer_of(read_at(
+                &mounted.dev,
+                &self.remembered.learnt,
+                path,
+                off,
+                len,
+                buf,
+            )),
             None => Err(FsError::Dead),
         }
     }
@@ -117,7 +125,7 @@ impl<D: Pm> Fs<D> {
             → IfOk result (λ found. IfSome found (λ next. IsMappedAt (D.words was.dev) path.now next)) }
     {
         match self.ready() {
-            Some(mounted) => answer_of(data_at(&mounted.dev, path, off)),
+            Some(mounted) => answer_of(data_at(&mounted.dev, &self.remembered.learnt, path, off)),
             None => Err(FsError::Dead),
         }
     }
@@ -134,8 +142,9 @@ impl<D: Pm> Fs<D> {
     }
 
     // The mount, unless a call has met a fault.
-    fn ready(&self) -> Option<&Mounted<D>>
-        ensures { MatchOption result (IsNone (mounts self.now)) (λ mounted. mounts self.now ≡ Some mounted.now) }
+    pub(crate) fn ready(&self) -> Option<&Mounted<D>>
+        ensures mount { MatchOption result (IsNone (mounts self.now)) (λ mounted. mounts self.now ≡ Some mounted.now) }
+        ensures so { IfSome result (λ mounted. IsSo self.now.remembered.learnt (D.words mounted.now.dev)) }
     {
         match &self.state {
             Some(State::Ready(mounted)) => Some(mounted),
@@ -149,7 +158,7 @@ impl<D: Pm> Fs<D> {
         ensures { IfSome (device_of self.now) (λ dev. result ≡ byte (D.words dev) v) }
     {
         match &self.state {
-            Some(State::Ready(mounted)) => byte_at(&mounted.dev, v),
+            Some(State::Ready(mounted)) => byte_by(&mounted.dev, &self.remembered.learnt, v),
             Some(State::Dead(failed)) => byte_at(&failed.dev, v),
             None => unreachable!(),
         }

@@ -7,7 +7,7 @@ ghost use Rattle.ct_base.specs.View.{inode_count};
 ghost use Rattle.ct_call.specs.Calls.{Keeps};
 ghost use Rattle.ct_call.specs.NotMounted.{why_not};
 ghost use Rattle.ct_call.specs.declared.mount.Why.{Why};
-ghost use Rattle.ct_fs.specs.Mounts.{dev_after, fs_dev};
+ghost use Rattle.ct_fs.specs.Mounts.{dev_after, fs_dev, mounts};
 ghost use Rattle.ct_mount.specs.Mounting.{IsSettledFrom, Judges, Recovers};
 ghost use Rattle.ct_pm.specs.Device.{LeavesOnly, MakesOnly, NothingPending};
 ghost use Rattle.ct_pm.specs.Images.{IsAllowed, IsSettled};
@@ -19,12 +19,33 @@ ghost use Rattle.ct_tree.specs.Ordered.{IsTree};
 ghost use Rattle.ct_tree.specs.Tree.{Tree};
 
 use crate::system::Fs;
-use ct_call::NoMount;
+use ct_base::NoMemory;
+use ct_cache::Caches;
+use ct_call::{Mounted, NoMount, Why};
+use ct_learn::Learnt;
 use ct_mount::recover;
 use ct_pm::Pm;
 use mount_stops::{Stop, mount_through as recover_through};
 use pm_trace::TracePm;
 use std::alloc::Global;
+
+// The file system of a mount, with memory for what is learnt.
+fn with_memory<D: Pm>(alloc: Global, mounted: Mounted<D>) -> Result<Fs<D>, NoMount<D>>
+    ensures ready { IfOk result (λ fs. mounts fs ≡ Some mounted) }
+    ensures dev { dev_after result ≡ mounted.dev }
+    ensures why { IfErr result (λ no_mount. no_mount.why ≡ Why.Memory) }
+{
+    match Caches::new(alloc) {
+        Ok(caches) => Ok(Fs::of(mounted, Learnt::within(caches))),
+        Err(NoMemory) => {
+            let Mounted { dev, frames: _ } = mounted;
+            Err(NoMount {
+                dev,
+                why: Why::Memory,
+            })
+        }
+    }
+}
 
 /// Mounts the file system of a device: a call that a crash cut off is done whole or not at all.
 ///
@@ -60,7 +81,7 @@ pub fn mount<D: Pm>(alloc: Global, dev: D) -> Result<Fs<D>, NoMount<D>>
     ensures later { D.faults dev ≤ D.faults (dev_after result) }
 {
     match recover(alloc, dev) {
-        Ok(mounted) => Ok(Fs::of(mounted)),
+        Ok(mounted) => with_memory(alloc, mounted),
         Err(no_mount) => Err(no_mount),
     }
 }
@@ -95,7 +116,7 @@ pub fn mount_through(
     ensures cause { IfErr result (λ no_mount. no_mount.why ≡ Why.Fault → Rose (faults_before stops.now dev) (faults_of no_mount.dev)) }
 {
     match recover_through(alloc, dev, stops) {
-        Ok(mounted) => Ok(Fs::of(mounted)),
+        Ok(mounted) => with_memory(alloc, mounted),
         Err(no_mount) => Err(no_mount),
     }
 }

@@ -2,11 +2,14 @@
 ghost use Rattle.std.specs.Prelude.{◌≡◌, Some, None, IfErr, IfOk, IfSome, IsSome};
 ghost use Rattle.ct_call.specs.Seen.{ready_in};
 ghost use Rattle.ct_commit.specs.Rest.{IsMounted};
-ghost use Rattle.ct_inode.specs.Live.{AreLiveBelow};
+ghost use Rattle.ct_fs.specs.Remembering.{IsRemembered};
+ghost use Rattle.ct_learn.specs.Learning.{IsSo};
 ghost use Rattle.std.proofs.Props.{props};
 
+use crate::remembered::Remembered;
 use ct_call::{Failed, Mounted, State};
 use ct_frames::Frames;
+use ct_learn::Learnt;
 use ct_pm::Pm;
 
 /// A mounted file system.
@@ -15,22 +18,26 @@ use ct_pm::Pm;
 pub struct Fs<D: Pm> {
     // `None` only while a call has the device.
     pub(crate) state: Option<State<D>>,
-    // Every inode below is live: a free one is searched for from here on.
-    pub(crate) free_from: u64,
+    pub(crate) remembered: Remembered,
     ghost here: { IsSome state },
-    ghost live: { IfSome (ready_in state) (λ now. AreLiveBelow (D.words now.dev) free_from) } by { Prim.hlevel props },
+    // What is remembered is so: each name and page that was learnt is what the search and the walk answer on the device.
+    ghost so: { IfSome (ready_in state) (λ now. IsRemembered (D.words now.dev) remembered) } by { Prim.hlevel props },
 }
 
 impl<D: Pm> Fs<D> {
     ghost use Rattle.ct_fs.specs.Mounts.{mounts, device_of};
 
-    // A mount that is ready.
-    pub(crate) fn of(mounted: Mounted<D>) -> Fs<D>
+    // A mount that is ready, and has learnt something of its device or nothing.
+    pub(crate) fn of(mounted: Mounted<D>, learnt: Learnt) -> Fs<D>
+        requires { IsSo learnt (D.words mounted.dev) }
         ensures { mounts result ≡ Some mounted }
     {
         Fs {
             state: Some(State::Ready(mounted)),
-            free_from: 1,
+            remembered: Remembered {
+                learnt,
+                free_from: 1,
+            },
         }
     }
 
@@ -40,7 +47,7 @@ impl<D: Pm> Fs<D> {
     {
         let Fs {
             state,
-            free_from: _,
+            remembered: _,
         } = self;
         match state {
             Some(State::Ready(mounted)) => {
@@ -59,12 +66,13 @@ impl<D: Pm> Fs<D> {
 impl<D: Pm> Fs<D> {
     ghost use Rattle.ct_fs.specs.Mounts.{mounts, device_of};
 
-    /// The mount of a device that is at rest, with its free pages, as [`Fs::into_parts`] answers them.
+    /// The mount of a device that is at rest, with its free pages, as [`Fs::into_parts`] answers them. It takes no memory, and so
+    /// learns no names and no pages.
     pub fn from_parts(dev: D, frames: Frames) -> Fs<D>
         requires rest { IsMounted (D.words dev) (D.told dev) frames }
         ensures ready { mounts result ≡ Some (record { dev = dev; frames = frames }) }
     {
-        Fs::of(Mounted { dev, frames })
+        Fs::of(Mounted { dev, frames }, Learnt::nothing())
     }
 
     /// The device of the mount, at rest, and its free pages, or the device alone where a call met a fault of it.
@@ -75,7 +83,7 @@ impl<D: Pm> Fs<D> {
     {
         let Fs {
             state,
-            free_from: _,
+            remembered: _,
         } = self;
         match state {
             Some(State::Ready(mounted)) => {

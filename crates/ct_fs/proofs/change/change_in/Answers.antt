@@ -1,11 +1,9 @@
-use Rattle.std.proofs.Common.{◌≡◌, ℕ, List, Some, refl, subst}
+use Rattle.std.proofs.Common.{◌≡◌, ℕ, List, refl}
 use Rattle.std.specs.Borrow.{Bor}
-use Rattle.ct_tree.specs.Step.{create, mkdir, op_of}
+use Rattle.ct_tree.specs.Step.{op_of}
 use Rattle.ct_tree.specs.declared.call.Call.{Call}
 use Rattle.ct_tree.specs.declared.call.Call.TheVariants.{Create, Mkdir, Write, Fill, Append, Read, Truncate, Unlink, Rmdir, Rename, Exchange, Stat, List as ListNames, Where}
 use Rattle.ct_call.specs.Calls.{IsChange}
-use Rattle.ct_commit.specs.Rest.{IsAtRest}
-use Rattle.ct_fs.proofs.Kept.{live_after}
 use Rattle.ct_fs.proofs.change.change_in.Goals as goal
 
 -- no other call is there
@@ -30,24 +28,3 @@ other (Where p) is c d w f a t x u r n = is
 
 pub unreachable-requires : goal.unreachable-requires
 unreachable-requires g c = other c.args.call.now c.requires.change c.in_default.not-Create c.in_default.not-Mkdir c.in_default.not-Write c.in_default.not-Fill c.in_default.not-Append c.in_default.not-Truncate c.in_default.not-Exchange c.in_default.not-Unlink c.in_default.not-Rmdir c.in_default.not-Rename
-
-pub returns-in-Create-clause-live : goal.returns-in-Create-clause-live
-returns-in-Create-clause-live g c = live_after c.args.mounted (create c.in-Create.path.now) (Some c.make_in.result.0) c.make_in.new.free_from c.make_in.result.1 (subst (λ v. IsAtRest (g.D.Pm.words v.dev)) c.mounted.view_is c.mounted.invariant.rest) c.make_in.ensures.does c.make_in.ensures.live c.make_in.ensures.below
-
-pub returns-in-Mkdir-clause-live : goal.returns-in-Mkdir-clause-live
-returns-in-Mkdir-clause-live g c = let m = c.make_in-in-Mkdir in live_after c.args.mounted (mkdir c.in-Mkdir.path.now) (Some m.result.0) m.new.free_from m.result.1 (subst (λ v. IsAtRest (g.D.Pm.words v.dev)) c.mounted.view_is c.mounted.invariant.rest) m.ensures.does m.ensures.live m.ensures.below
-
-pub returns-in-Write-clause-live : goal.returns-in-Write-clause-live
-returns-in-Write-clause-live g c = live_after c.args.mounted _ (Some c.edit_in.result.0) c.args.free_from.now c.edit_in.result.1 (subst (λ v. IsAtRest (g.D.Pm.words v.dev)) c.mounted.view_is c.mounted.invariant.rest) c.edit_in.ensures.does c.edit_in.ensures.live c.requires.live
-
-pub returns-in-Fill-clause-live : goal.returns-in-Fill-clause-live
-returns-in-Fill-clause-live g c = let e = c.edit_in-in-Fill in live_after c.args.mounted _ (Some e.result.0) c.args.free_from.now e.result.1 (subst (λ v. IsAtRest (g.D.Pm.words v.dev)) c.mounted.view_is c.mounted.invariant.rest) e.ensures.does e.ensures.live c.requires.live
-
-pub returns-in-Append-clause-live : goal.returns-in-Append-clause-live
-returns-in-Append-clause-live g c = let e = c.edit_in-in-Append in live_after c.args.mounted _ (Some e.result.0) c.args.free_from.now e.result.1 (subst (λ v. IsAtRest (g.D.Pm.words v.dev)) c.mounted.view_is c.mounted.invariant.rest) e.ensures.does e.ensures.live c.requires.live
-
-pub returns-in-Truncate-clause-live : goal.returns-in-Truncate-clause-live
-returns-in-Truncate-clause-live g c = let e = c.edit_in-in-Truncate in live_after c.args.mounted _ (Some e.result.0) c.args.free_from.now e.result.1 (subst (λ v. IsAtRest (g.D.Pm.words v.dev)) c.mounted.view_is c.mounted.invariant.rest) e.ensures.does e.ensures.live c.requires.live
-
-pub returns-in-Exchange-clause-live : goal.returns-in-Exchange-clause-live
-returns-in-Exchange-clause-live g c = let e = c.exchange_in in live_after c.args.mounted _ (Some e.result.0) c.args.free_from.now e.result.1 (subst (λ v. IsAtRest (g.D.Pm.words v.dev)) c.mounted.view_is c.mounted.invariant.rest) e.ensures.does e.ensures.live c.requires.live

@@ -60,6 +60,14 @@ module _ {S I R M : Type 0} (Step : S → I → R → S → M → M → Type 0) 
   pub served_none : (s : S) (all : List I) (a : Option (List ℕ)) (f : M) → ServedOf Step line s s all all a a f f
   served_none s all a f = record { replies = []; ran = ran_none Step s all f; wrote = appends_nil a }
 
+  -- items that were all served, before others
+  pub served_before : (s t : S) (xs more : List I) (a b : Option (List ℕ)) (f g : M) → ServedOf Step line s t xs [] a b f g → ServedOf Step line s t (xs ++ more) more a b f g
+  served_before s t xs more a b f g had = record {
+    replies = had.replies;
+    ran = record { done = had.ran.done; split = ap (λ (z : List I). z ++ more) (had.ran.split ∙ append-nil had.ran.done); passes = had.ran.passes };
+    wrote = had.wrote;
+  }
+
   stopped_at : (s : S) (all : List I) (a : Option (List ℕ)) (f g : M) → (g ≡ f) ⊎ ((no_replies ≡ []) × HasBegun Begun s all f g) → StoppedOf Step Begun line s all a a f g
   stopped_at s all a f g begun = record {
     rest = all;

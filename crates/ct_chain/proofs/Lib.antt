@@ -1,2 +1,2 @@
 pub mod Chained
-pub mod Lines
+pub mod Fed

@@ -93,7 +93,7 @@ front_unended true front is = is.0
 front_unended false front is = subst IsUnended (sym is) unended_none
 
 gives_none : (feed : FeedState) (rest : Option (List ℕ)) → Gives feed feed rest rest []
-gives_none feed rest = record { gave = consumes_none rest; count = omega arith; ends = λ e. inr (e, refl) }
+gives_none feed rest = record { gave = consumes_none rest; count = omega arith; ends = λ e. inr (e, refl); after = λ e. (refl, e) }
 
 -- nothing came yet
 pub reads_none : (feed : FeedState) (rest : Option (List ℕ)) → feed.given ≤ 16777216 → Reads false feed feed rest rest
@@ -105,7 +105,7 @@ advance_past feed rest is = record { more = []; gives = gives_none feed rest; fo
 
 module _ (old now new : FeedState) (rest rest' : Option (List ℕ)) (more : List ℕ) (gives : Gives old now rest rest' more) (given : new.given ≡ now.given) (ended : new.ended ≡ now.ended) where
   gives_same : Gives old new rest rest' more
-  gives_same = record { gave = gives.gave; count = given ∙ gives.count; ends = λ e. gives.ends (sym ended ∙ e) }
+  gives_same = record { gave = gives.gave; count = given ∙ gives.count; ends = λ e. gives.ends (sym ended ∙ e); after = λ e. let was = gives.after e in (was.0, ended ∙ was.1) }
 
 module _ (passed : Bool) (old now : FeedState) (rest rest' : Option (List ℕ)) (reads : Reads passed old now rest rest') where
   -- a line is found
@@ -171,6 +171,7 @@ module _ (passed : Bool) (old now : FeedState) (rest rest' : Option (List ℕ)) 
             | inl at ↦ inl at
             | inr was ↦ elim (reads.gives.ends was.0) [ inl at ↦ inl (subst IsAtEnd (sym was.1) at) | inr before ↦ inr (before.0, was.1 ∙ before.1) ]
           ];
+      after = λ e. let was = reads.gives.after e in let is = gives.after was.1 in (ap (λ z. z ++ piece) was.0 ∙ is.0, is.1);
     }
 
     split_more : old.held ++ (reads.more ++ piece) ≡ reads.front ++ new.held
@@ -196,6 +197,7 @@ module _ (passed : Bool) (old now : FeedState) (rest rest' : Option (List ℕ)) 
       subst IsUnended (sym (split_more new rest'' fills.piece fills.gives fills.held ∙ ap (λ z. reads.front ++ z) (fills.held ∙ ap (λ z. now.held ++ z) fills.fits.0 ∙ append-nil now.held)))
           (unended_both reads.front now.held (front_unended passed reads.front reads.is) unended),
       fills.fits.1,
+      fills.fits.2,
     );
   }
   advance_failed new rest'' TooLong unended fills = record { more = reads.more ++ fills.piece; gives = gives_more new rest'' fills.piece fills.gives fills.held; found = fills.fits }

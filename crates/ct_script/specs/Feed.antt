@@ -19,6 +19,10 @@ pub record FeedState : Type 0 where
   pub given : ℕ
   pub ended : Bool
 
+-- nothing was asked of an input yet
+abbrev pub unasked : FeedState
+unasked = record { line = []; held = []; given = 0; ended = false }
+
 -- no byte 10 is in the text
 abbrev pub IsUnended : List ℕ → Type 0
 IsUnended text = All (λ b. b ≢ 10) text
@@ -43,14 +47,15 @@ Finds text feed End = (text ≡ []) × (feed.ended ≡ true) × (feed.held ≡ [
 -- or why nothing was: the input failed before a line was ended, or it gave a byte more than a script may have
 abbrev pub FindsOr : List ℕ → FeedState → Result Next ReadEnd → Type 0
 FindsOr text feed (Ok next) = Finds text feed next × (feed.given ≤ SCRIPT_BYTES)
-FindsOr text feed (Err Fault) = IsUnended text × (feed.given ≤ SCRIPT_BYTES)
+FindsOr text feed (Err Fault) = IsUnended text × (feed.given ≤ SCRIPT_BYTES) × (feed.ended ≡ false)
 FindsOr text feed (Err TooLong) = feed.given ≡ SCRIPT_BYTES + 1
 
--- The input gave more bytes, which is how it ended if the feed says so, unless that was known before and it was not asked.
+-- The input gave more bytes, which is how it ended if the feed says so, unless that was known before: then it gave none.
 pub record Gives (old new : FeedState) (rest rest' : Option (List ℕ)) (more : List ℕ) : Type 0 where
   pub gave : Consumes rest rest' more
   pub count : new.given ≡ old.given + length more
   pub ends : new.ended ≡ true → IsAtEnd rest' ⊎ ((old.ended ≡ true) × (rest' ≡ rest))
+  pub after : old.ended ≡ true → (more ≡ []) × (new.ended ≡ true)
 
 -- a feed went on by a line: that was found in what it held and what the input gave
 pub record Advances (old new : FeedState) (rest rest' : Option (List ℕ)) (result : Result Next ReadEnd) : Type 0 where
@@ -77,7 +82,7 @@ last_next false (x ∷ xs) = Line
 -- what one piece of the input is, and what it leaves of a feed that held no whole line
 abbrev pub Fits : FeedState → List ℕ → Result ℕ ReadEnd → Type 0
 Fits feed piece (Ok n) = (n ≡ length piece) × (n ≡ 0 → feed.ended ≡ true) × (feed.given ≤ SCRIPT_BYTES)
-Fits feed piece (Err Fault) = (piece ≡ []) × (feed.given ≤ SCRIPT_BYTES)
+Fits feed piece (Err Fault) = (piece ≡ []) × (feed.given ≤ SCRIPT_BYTES) × (feed.ended ≡ false)
 Fits feed piece (Err TooLong) = feed.given ≡ SCRIPT_BYTES + 1
 
 pub record Fills (old new : FeedState) (rest rest' : Option (List ℕ)) (result : Result ℕ ReadEnd) : Type 0 where

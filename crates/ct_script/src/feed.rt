@@ -3,7 +3,7 @@ ghost use Rattle.std.specs.Prelude.{◌≡◌, ◌≢◌, ◌+◌, ◌-◌, ◌<
 ghost use Rattle.std.specs.Io.KnownBytes.{Consumes, IsAtEnd, Keeps};
 ghost use Rattle.std.specs.Vec.{vec_len};
 ghost use Rattle.ct_base.specs.Causes.{HasCause, Rose};
-ghost use Rattle.ct_script.specs.Feed.{Advances, Fills, IsUnended, MakesRoom, TakesLine, last_next};
+ghost use Rattle.ct_script.specs.Feed.{Advances, Fills, IsUnended, MakesRoom, TakesLine, last_next, unasked};
 ghost use Rattle.ct_script.specs.declared.scratch.TheConstants.{LINE_BYTES};
 
 use crate::scratch::LINE_BYTES;
@@ -75,7 +75,7 @@ impl Model for Feed {
 impl Feed {
     /// Takes memory for the longest line. Nothing was asked of an input yet.
     pub fn new(alloc: Global) -> Result<Feed, NoMemory>
-        ensures { IfOk result (λ feed. feed ≡ record { line = []; held = []; given = 0; ended = false }) }
+        ensures { IfOk result (λ feed. feed ≡ unasked) }
     {
         match vec![in alloc; 0u8; BUFFER_BYTES] {
             Ok(buffer) => Ok(Feed {

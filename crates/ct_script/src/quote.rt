@@ -1,15 +1,15 @@
 // Names as they are written in replies.
 ghost use Rattle.std.specs.Prelude.{◌≡◌, ◌+◌, ◌*◌, ◌≤◌, ◌++◌, ◌==◌, ◌||◌, nat_le, length};
 ghost use Rattle.std.specs.Vec.{vec_capacity};
-ghost use Rattle.ct_script.specs.Texts.{escaped, escaped_byte, is_escaped};
+ghost use Rattle.ct_script.specs.Texts.{escaped, escaped_byte, is_escaped, name_text};
 
 use ct_base::{NAME_BYTES, NoMemory};
 use percent_encoding::percent_encode_byte;
 use std::alloc::Global;
 use std::marker::Model;
 
-/// The longest name, with each of its bytes escaped.
-const QUOTED_BYTES: usize = 3 * NAME_BYTES;
+/// The longest name with each of its bytes escaped, and a space before it.
+const QUOTED_BYTES: usize = 3 * NAME_BYTES + 1;
 
 /// A buffer for one name as it is written.
 #[derive(Drop)]
@@ -44,6 +44,17 @@ impl Quote {
         ensures { result.now ≡ escaped name.now }
     {
         self.text.clear();
+        quote_onto(&mut self.text, name);
+        self.text.as_slice()
+    }
+
+    /// The same with a space before it.
+    pub fn spaced(&mut self, name: &[u8]) -> &[u8]
+        requires { length name.now ≤ NAME_BYTES }
+        ensures { result.now ≡ name_text name.now }
+    {
+        self.text.clear();
+        add(&mut self.text, b" ");
         quote_onto(&mut self.text, name);
         self.text.as_slice()
     }

@@ -60,16 +60,13 @@ pub fn put_names<O: Sink>(out: &mut O) -> Result<(), WriteFault>
     out.put(b"names")
 }
 
-/// Writes one name into the line of names.
+/// Writes one name into the line of names, with the space before it at once.
 pub fn put_name<O: Sink>(out: &mut O, quote: &mut Quote, name: &[u8]) -> Result<(), WriteFault>
     requires { length name.now ≤ NAME_BYTES }
     ensures bytes { PutAppends (O.written out.old) (O.written out.new) result (name_text name.now) }
     ensures cause { HasCause (O.faults out.old) (O.faults out.new) result }
 {
-    match out.put(b" ") {
-        Ok(()) => out.put(quote.escape(name)),
-        Err(fault) => Err(fault),
-    }
+    out.put(quote.spaced(name))
 }
 
 /// Ends the line of names.

@@ -1,31 +1,29 @@
 -- The names in a directory, one after another, each the first that is later than the one before.
-use Rattle.std.proofs.Common.{◌≡◌, ◌∙◌, ℕ, zero, suc, ◌+◌, ◌<◌, List, [], ◌∷◌, ◌++◌, length, take, drop, Option, Some, None, Ok, Err, Result, refl, sym, ap, subst, append_assoc, append-nil, arith, false}
+use Rattle.std.proofs.Common.{◌≡◌, ◌∙◌, ℕ, zero, suc, ◌+◌, ◌<◌, ◌≤◌, List, [], ◌∷◌, ◌++◌, length, length-take, take, drop, get_or, map, Option, Some, None, Ok, Err, Result, refl, sym, ap, subst, append_assoc, append-nil, arith}
 use Rattle.std.specs.Prelude.{codes, slice_get}
 use Rattle.std.specs.List.{flat_map}
 use Rattle.std.specs.Io.KnownBytes.{Appends}
-use Rattle.std.proofs.lemmas.List.{take_all}
-use Rattle.std.proofs.lemmas.Cmp.{nat_list_cmp_total, tied_itself}
-use Rattle.std.specs.declared.cmp.Ordering.TheVariants.{Less}
-use Rattle.ct_base.specs.Path.{name_cmp}
-use Rattle.ct_dir.proofs.Choosing.{greater_later}
-use Rattle.ct_look.specs.Looks.{IsLook, is_later, is_less, next_name, stat_answer}
+use Rattle.std.proofs.lemmas.List.{get_or-take, length-map, take_all}
+use Rattle.std.proofs.lemmas.Option.{slice_get-get_or, slice_get-map}
+use Rattle.std.specs.Option.{option_map}
+use Rattle.ct_base.specs.Objects.{Object}
+use Rattle.ct_base.specs.Slots.{slot_name}
+use Rattle.ct_look.proofs.Following.{first_name, next_later}
+use Rattle.ct_look.proofs.Listed.{names_count}
+use Rattle.ct_look.specs.Looks.{IsLook, next_name, stat_answer}
 use Rattle.ct_call.specs.declared.mount.FsError.{FsError}
+use Rattle.ct_call.specs.declared.mount.FsError.TheVariants.{Dead, Refused as refused, Fault}
 use Rattle.ct_look.specs.declared.seen.Stat.{Stat}
 use Rattle.ct_script.proofs.Puts.{appends_then, fault_after, fault_first}
 use Rattle.ct_script.specs.Texts.{name_text, reply_line}
 use Rattle.ct_tree.proofs.Ordered.{resolve_tree}
 use Rattle.ct_tree.specs.Checks.{at, bad_path, first_of, names, no_dir, no_node}
-use Rattle.ct_tree.specs.Ordered.{AreEntries, IsBelow, IsTree}
-use Rattle.ct_tree.specs.Step.{answered, count, list, listed_in, names_in, refusal, stat, step, told}
-use Rattle.ct_tree.specs.Tree.{Tree, File, Dir, Entries, none, entry}
+use Rattle.ct_tree.specs.Ordered.{IsTree}
+use Rattle.ct_tree.specs.Step.{answered, list, listed_in, refusal, stat, step, told}
+use Rattle.ct_tree.specs.Tree.{Tree, File, Dir}
 use Rattle.ct_tree.specs.declared.call.Refusal.{Refusal}
 use Rattle.ct_tree.specs.declared.call.Reply.TheVariants.{Names}
 use Rattle.ct_shell.specs.Shows.{entries_of}
-
--- there are as many names as entries
-names_count : (es : Entries) → count es ≡ length (names_in es)
-names_count none = refl
-names_count (entry name node rest) = omega (arith, names_count rest)
 
 -- what is told of a directory is how many names it has, and what is told of all else refuses the list
 entries_case : (t : Tree) (check : Option Refusal) (n : Result Tree Refusal)
@@ -33,41 +31,16 @@ entries_case : (t : Tree) (check : Option Refusal) (n : Result Tree Refusal)
 entries_case t (Some r) n = refl
 entries_case t None (Err e) = refl
 entries_case t None (Ok (File bytes)) = refl
-entries_case t None (Ok (Dir es)) = (refl, names_count es)
+entries_case t None (Ok (Dir es)) = (refl, sym (names_count es))
 
 pub entries_told : (t : Tree) (path : List ℕ) (result : Result Stat FsError) → result ≡ stat_answer (step t (stat path)).0 → IsLook (refusal t (list path)) (λ count. count ≡ length (listed_in (at t path))) (entries_of result)
 entries_told t path result is = subst (λ r. IsLook (refusal t (list path)) (λ count. count ≡ length (listed_in (at t path))) (entries_of r)) (sym is) (entries_case t (bad_path path) (at t path))
 
--- a name before the entries is before each of them
-pub below_each : (y : List ℕ) (es : Entries) (i : ℕ) (x : List ℕ) → IsBelow y es → slice_get (names_in es) i ≡ Some x → name_cmp y x ≡ Less
-below_each y none i x below is = absurd (cc)
-below_each y (entry z node rest) zero x below is = let same : z ≡ x = cc in subst (λ n. name_cmp y n ≡ Less) same below.0
-below_each y (entry z node rest) (suc i) x below is = below_each y rest i x below.1 is
-
-not_later : (x y : List ℕ) → name_cmp y x ≡ Less → is_later (Some x) y ≡ false
-not_later x y less = ap is_less (greater_later y x less)
-
-itself : (x : List ℕ) → is_later (Some x) x ≡ false
-itself x = ap is_less (tied_itself nat_list_cmp_total x)
-
--- the first name later than one that is before all
-first_later : (y : List ℕ) (es : Entries) → IsBelow y es → next_name (Some y) (names_in es) ≡ slice_get (names_in es) 0
-first_later y none below = refl
-first_later y (entry z node rest) below = rw below.0 refl
-
--- the first name later than the one with a number is the next one
-pub next_later : (es : Entries) (i : ℕ) (x : List ℕ) → AreEntries es → slice_get (names_in es) i ≡ Some x → next_name (Some x) (names_in es) ≡ slice_get (names_in es) (i + 1)
-next_later none i x ordered is = absurd (cc)
-next_later (entry y node rest) zero x ordered is =
-    let same : y ≡ x = cc in
-    subst (λ n. next_name (Some n) (y ∷ names_in rest) ≡ slice_get (names_in rest) 0) same (rw (itself y) (first_later y rest ordered.2))
-next_later (entry y node rest) (suc i) x ordered is =
-    let more : suc (i + 1) ≡ suc i + 1 = omega arith in
-    subst (λ n. next_name (Some x) (y ∷ names_in rest) ≡ slice_get (y ∷ names_in rest) n) more (rw (not_later x y (below_each y rest i x ordered.2 is)) (next_later rest i x ordered.3 is))
-
-pub first_name : (xs : List (List ℕ)) → next_name None xs ≡ slice_get xs 0
-first_name [] = refl
-first_name (x ∷ xs) = refl
+-- what is refused is refused whatever was looked for
+pub refused_alike : {T U : Type 0} (P : T → Type 0) (Q : U → Type 0) (check : Option Refusal) (error : FsError) → IsLook check P (Err error) → IsLook check Q (Err error)
+refused_alike P Q check Dead look = look
+refused_alike P Q check (refused r) look = look
+refused_alike P Q check Fault look = look
 
 -- the list up to one more
 pub take_next : {X : Type 0} (xs : List X) (i : ℕ) (x : X) → slice_get xs i ≡ Some x → take (i + 1) xs ≡ take i xs ++ (x ∷ [])
@@ -140,13 +113,19 @@ listed_ordered t path i x ordered is = cases (at t path) refl is
 abbrev pub IsListed : List (List ℕ) → ℕ → Option (List ℕ) → Option (List ℕ) → Option (List ℕ) → Type 0
 IsListed xs i last old new = Appends old new (names_to xs i) × (next_name last xs ≡ slice_get xs i)
 
+pub names_none : (xs : List (List ℕ)) (old new : Option (List ℕ)) → Appends old new (codes "names") → Appends old new (names_to xs 0)
+names_none xs old new put = subst (Appends old new) (sym (append-nil (codes "names"))) put
+
+pub names_then : (xs : List (List ℕ)) (i : ℕ) (x : List ℕ) (old mid new : Option (List ℕ)) → slice_get xs i ≡ Some x → Appends old mid (names_to xs i) → Appends mid new (name_text x) → Appends old new (names_to xs (i + 1))
+names_then xs i x old mid new is before put = subst (Appends old new) (sym (names_more xs i x is)) (appends_then old mid new (names_to xs i) (name_text x) before put)
+
 pub listed_start : (xs : List (List ℕ)) (old new : Option (List ℕ)) → Appends old new (codes "names") → IsListed xs 0 None old new
-listed_start xs old new put = (subst (Appends old new) (sym (append-nil (codes "names"))) put, first_name xs)
+listed_start xs old new put = (names_none xs old new put, first_name xs)
 
 pub listed_more : (t : Tree) (path : List ℕ) (i : ℕ) (x y : List ℕ) (last old mid new : Option (List ℕ)) → IsTree t → slice_get (listed_in (at t path)) i ≡ Some x → IsListed (listed_in (at t path)) i last old mid
     → y ≡ x → Appends mid new (name_text x) → IsListed (listed_in (at t path)) (i + 1) (Some y) old new
 listed_more t path i x y last old mid new ordered is listed same put = (
-  subst (Appends old new) (sym (names_more (listed_in (at t path)) i x is)) (appends_then old mid new (names_to (listed_in (at t path)) i) (name_text x) listed.0 put),
+  names_then (listed_in (at t path)) i x old mid new is listed.0 put,
   subst (λ z. next_name (Some z) (listed_in (at t path)) ≡ slice_get (listed_in (at t path)) (i + 1)) (sym same) (listed_ordered t path i x ordered is),
 )
 
@@ -154,8 +133,19 @@ listed_more t path i x y last old mid new ordered is listed same put = (
 names_all : (xs : List (List ℕ)) (n : ℕ) → n ≡ length xs → names_to xs n ≡ codes "names" ++ flat_map name_text xs
 names_all xs n is = ap (λ ys. codes "names" ++ flat_map name_text ys) (take_all n xs (omega (arith, is)))
 
-pub listed_end : (xs : List (List ℕ)) (n : ℕ) (last old mid new : Option (List ℕ)) → n ≡ length xs → IsListed xs n last old mid → Appends mid new (10 ∷ []) → Appends old new (reply_line (Names xs))
-listed_end xs n last old mid new is listed put = appends_then old mid new (codes "names" ++ flat_map name_text xs) (10 ∷ []) (subst (Appends old mid) (names_all xs n is) listed.0) put
+pub listed_end : (xs : List (List ℕ)) (n : ℕ) (old mid new : Option (List ℕ)) → n ≡ length xs → Appends old mid (names_to xs n) → Appends mid new (10 ∷ []) → Appends old new (reply_line (Names xs))
+listed_end xs n old mid new is before put = appends_then old mid new (codes "names" ++ flat_map name_text xs) (10 ∷ []) (subst (Appends old mid) (names_all xs n is) before) put
 
-pub torn_end : (xs : List (List ℕ)) (n : ℕ) (last old mid new : Option (List ℕ)) → n ≡ length xs → IsListed xs n last old mid → (k : ℕ) × Appends mid new (take k (10 ∷ [])) → (m : ℕ) × Appends old new (take m (reply_line (Names xs)))
-torn_end xs n last old mid new is listed put = fault_after old mid new (codes "names" ++ flat_map name_text xs) (10 ∷ []) [] (subst (Appends old mid) (names_all xs n is) listed.0) put
+pub torn_end : (xs : List (List ℕ)) (n : ℕ) (old mid new : Option (List ℕ)) → n ≡ length xs → Appends old mid (names_to xs n) → (k : ℕ) × Appends mid new (take k (10 ∷ [])) → (m : ℕ) × Appends old new (take m (reply_line (Names xs)))
+torn_end xs n old mid new is before put = fault_after old mid new (codes "names" ++ flat_map name_text xs) (10 ∷ []) [] (subst (Appends old mid) (names_all xs n is) before) put
+
+-- ---- the names of slots
+
+pub name_put : (f : Object) (offsets : List ℕ) (n k d : ℕ) → k < n → n ≤ length offsets → slice_get (map (slot_name f) (take n offsets)) k ≡ Some (slot_name f (get_or offsets k d))
+name_put f offsets n k d lt room =
+    let long = length-take n offsets in
+    slice_get-map (slot_name f) (take n offsets) k
+    ∙ ap (option_map (slot_name f)) (slice_get-get_or (take n offsets) k d (omega (arith, long)) ∙ ap Some (get_or-take n offsets k d lt))
+
+pub names_put : (f : Object) (offsets : List ℕ) (n : ℕ) → n ≤ length offsets → n ≡ length (map (slot_name f) (take n offsets))
+names_put f offsets n room = let long = length-take n offsets in omega (arith, long, length-map (take n offsets) (slot_name f))

@@ -87,7 +87,15 @@ pub fn serve_call<D: Pm, O: Sink>(
     match *call {
         Call::Stat { path } => send(out, stat_reply(fs.stat(path))),
         Call::Where { path } => send(out, place_reply(fs.locate(path))),
-        Call::List { path } => list(fs, path, &mut buffers.quote, out),
+        Call::List { path } => {
+            list(
+                fs,
+                path,
+                buffers.offsets.as_mut_slice(),
+                &mut buffers.quote,
+                out,
+            )
+        }
         Call::Read { path, off, len } => {
             read(fs, path, off, len, buffers.bytes.as_mut_slice(), out)
         }

@@ -18,6 +18,7 @@ ghost use Rattle.ct_tree.specs.declared.call.Reply.TheVariants.{Names};
 ghost use Rattle.ct_shell.specs.Served.{Serves};
 
 use crate::call::{ServeEnd, error_reply, send};
+use crate::sorted::put_sorted;
 use ct_base::{NameBuf, Sink};
 use ct_fs::{Fs, FsError, Stat};
 use ct_pm::Pm;
@@ -25,7 +26,29 @@ use ct_script::{Quote, put_end, put_name, put_names};
 use ct_tree::Refusal;
 
 /// Writes the line of the names in a directory, in byte order, or of a refusal.
+///
+/// Where the directory has no more entries than the buffer has room for, they are met once and put in order by their offsets.
 pub fn list<D: Pm, O: Sink>(
+    fs: &Fs<D>,
+    path: &[u8],
+    offsets: &mut [u64],
+    quote: &mut Quote,
+    out: &mut O,
+) -> Result<(), ServeEnd>
+    ensures serves { (count : ℕ) (t : Tree) → Keeps count fs.now.state t
+        → Serves count t (call_item (list_call path.now) ∷ []) fs.now.state fs.now.state (O.written out.old) (O.written out.new) result }
+    ensures later { O.faults out.old ≤ O.faults out.new }
+    ensures fault { result ≡ Err ServeEnd.Output → Rose (O.faults out.old) (O.faults out.new) }
+{
+    match fs.entries(path, offsets) {
+        Ok(Some(listing)) => put_sorted(fs, listing, offsets, quote, out),
+        Ok(None) => list_by_steps(fs, path, quote, out),
+        Err(error) => send(out, error_reply(error)),
+    }
+}
+
+// The same of a directory with any number of entries: each name is searched for.
+fn list_by_steps<D: Pm, O: Sink>(
     fs: &Fs<D>,
     path: &[u8],
     quote: &mut Quote,

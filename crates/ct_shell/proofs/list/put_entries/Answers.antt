@@ -48,7 +48,7 @@ returns-in-Ok-put_end-clause-bytes g c was is t st allowed counted =
     let names = listed_in (at t c.args.path.now) in
     let listed = c.loop.invariant.listed was is t st allowed counted in
     let all : c.loop.counter ≡ length names = omega (arith, c.loop-test.false, c.loop.auto.counter-end, counted) in
-    (listed_end names c.loop.counter _ (g.O.Sink.written c.args.out.now) (g.O.Sink.written c.loop.out) (g.O.Sink.written c.put_end.new.out) all listed c.in-Ok-put_end.ensures.bytes, λ e. absurd (cc))
+    (listed_end names c.loop.counter (g.O.Sink.written c.args.out.now) (g.O.Sink.written c.loop.out) (g.O.Sink.written c.put_end.new.out) all listed.0 c.in-Ok-put_end.ensures.bytes, λ e. absurd (cc))
 
 pub returns-in-Ok-put_end-clause-later : goal.returns-in-Ok-put_end-clause-later
 returns-in-Ok-put_end-clause-later g c = let had = c.loop.invariant.later in let more = c.in-Ok-put_end.ensures.cause.later in omega (arith, had, more)
@@ -58,7 +58,7 @@ returns-in-Err-put_end-clause-bytes g c was is t st allowed counted =
     let names = listed_in (at t c.args.path.now) in
     let listed = c.loop.invariant.listed was is t st allowed counted in
     let all : c.loop.counter ≡ length names = omega (arith, c.loop-test.false, c.loop.auto.counter-end, counted) in
-    (torn_end names c.loop.counter _ (g.O.Sink.written c.args.out.now) (g.O.Sink.written c.loop.out) (g.O.Sink.written c.put_end.new.out) all listed c.in-Err-put_end.ensures.bytes, λ e. absurd (cc))
+    (torn_end names c.loop.counter (g.O.Sink.written c.args.out.now) (g.O.Sink.written c.loop.out) (g.O.Sink.written c.put_end.new.out) all listed.0 c.in-Err-put_end.ensures.bytes, λ e. absurd (cc))
 
 pub returns-in-Err-put_end-clause-later : goal.returns-in-Err-put_end-clause-later
 returns-in-Err-put_end-clause-later g c = let had = c.loop.invariant.later in let more = c.in-Err-put_end.ensures.cause.later in omega (arith, had, more)

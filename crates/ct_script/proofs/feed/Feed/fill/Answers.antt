@@ -12,6 +12,7 @@ returns-then-self-gt-SCRIPT_BYTES-clause-fills g c =
     let f = c.self.inside in
     let xs = c.read_at.new.buffer.items in
     let n = c.in-Ok.count in
+    let ended : c.args.self.now.ended ≡ f.ended = sym (ap (λ (s : FeedState). s.ended) c.self.view_is) in
     let given : f.given ≡ c.args.self.now.given = ap (λ (s : FeedState). s.given) c.self.view_is in
     let held : take f.len (drop f.begin f.buffer.items) ≡ c.args.self.now.held = ap (λ (s : FeedState). s.held) c.self.view_is in
     let bound = c.in-Ok.ensures.bound in
@@ -20,7 +21,7 @@ returns-then-self-gt-SCRIPT_BYTES-clause-fills g c =
     let long = piece_length xs c.move_to_front.new.buffer.items f.buffer.items f.len n c.min-most.result c.in-Ok.ensures.length c.move_to_front.ensures.length c.self.invariant.0 bound (omega (arith, most)) in
     record {
       piece = take n (drop f.len xs);
-      gives = record { gave = c.in-Ok.ensures.bytes.0; count = omega (arith, given, long); ends = λ e. absurd (true≢false (sym e ∙ c.if-self.false)) };
+      gives = record { gave = c.in-Ok.ensures.bytes.0; count = omega (arith, given, long); ends = λ e. absurd (true≢false (sym e ∙ c.if-self.false)); after = λ e. absurd (true≢false (sym e ∙ ended ∙ c.if-self.false)) };
       held = take-add f.len n xs ∙ ap (λ z. z ++ take n (drop f.len xs)) (c.in-Ok.ensures.front ∙ c.move_to_front.ensures.front ∙ held);
       fits = omega (arith, bound, most, past, given);
     }
@@ -30,6 +31,7 @@ returns-else-self-gt-SCRIPT_BYTES-clause-fills g c =
     let f = c.self.inside in
     let xs = c.read_at.new.buffer.items in
     let n = c.in-Ok.count in
+    let ended : c.args.self.now.ended ≡ f.ended = sym (ap (λ (s : FeedState). s.ended) c.self.view_is) in
     let given : f.given ≡ c.args.self.now.given = ap (λ (s : FeedState). s.given) c.self.view_is in
     let held : take f.len (drop f.begin f.buffer.items) ≡ c.args.self.now.held = ap (λ (s : FeedState). s.held) c.self.view_is in
     let bound = c.in-Ok.ensures.bound in
@@ -37,7 +39,7 @@ returns-else-self-gt-SCRIPT_BYTES-clause-fills g c =
     let long = piece_length xs c.move_to_front.new.buffer.items f.buffer.items f.len n c.min-most.result c.in-Ok.ensures.length c.move_to_front.ensures.length c.self.invariant.0 bound (omega (arith, most)) in
     record {
       piece = take n (drop f.len xs);
-      gives = record { gave = c.in-Ok.ensures.bytes.0; count = omega (arith, given, long); ends = λ e. absurd (true≢false (sym e ∙ c.if-self.false)) };
+      gives = record { gave = c.in-Ok.ensures.bytes.0; count = omega (arith, given, long); ends = λ e. absurd (true≢false (sym e ∙ c.if-self.false)); after = λ e. absurd (true≢false (sym e ∙ ended ∙ c.if-self.false)) };
       held = take-add f.len n xs ∙ ap (λ z. z ++ take n (drop f.len xs)) (c.in-Ok.ensures.front ∙ c.move_to_front.ensures.front ∙ held);
       fits = (sym long, λ zero. absurd (c.in-Ok.count-test.1 zero), c.if-self-gt-SCRIPT_BYTES.false);
     }

@@ -37,7 +37,6 @@ runs_some command status d s r = record {
   untouched = r.untouched;
   head = r.head;
   ends = r.ends;
-  unwritten = r.unwritten;
   not_image = r.not_image;
   refused = r.refused;
   later = r.later;
@@ -57,7 +56,6 @@ module _ {D S O : Type 0} (dev : D) (from : Moment) (pages faults : ℕ) (input 
     untouched = λ unbegun. inl refl;
     head = λ rule is low. refl;
     ends = λ served. absurd served;
-    unwritten = λ takes unserved. refl;
     not_image = λ rule is. absurd (cc);
     refused = λ rule is. absurd is;
     later = omega arith;
@@ -72,7 +70,6 @@ module _ {D S O : Type 0} (dev : D) (from : Moment) (pages faults : ℕ) (input 
     untouched = λ unbegun. inl refl;
     head = λ rule is low. refl;
     ends = λ served. absurd served;
-    unwritten = λ takes unserved. refl;
     not_image = λ rule is. absurd (cc);
     refused = λ rule is. inr (inl refl);
     later = omega arith;
@@ -90,7 +87,6 @@ runs_unopened way Takes Leaves (Damage n) d input out rest old source sink u = r
       let same : n ≡ rule = cc in
       u.head rule (ap (λ k. Damage k) same) low;
   ends = λ served. absurd served;
-  unwritten = λ takes unserved. refl;
   not_image = λ rule is.
       let same : n ≡ rule = cc in
       u.bars rule (ap (λ k. Damage k) same);
@@ -104,7 +100,6 @@ runs_unopened way Takes Leaves Fault d input out rest old source sink u = record
   untouched = λ unbegun. absurd (unbegun tt);
   head = λ rule is low. absurd (cc);
   ends = λ served. inl ((refl, refl), u.fails refl);
-  unwritten = λ takes unserved. refl;
   not_image = λ rule is. absurd (cc);
   refused = u.barred;
   later = u.later;
@@ -116,7 +111,6 @@ runs_unopened way Takes Leaves Memory d input out rest old source sink u = recor
   untouched = λ unbegun. u.untouched (λ is. absurd (cc));
   head = λ rule is low. absurd (cc);
   ends = λ served. absurd served;
-  unwritten = λ takes unserved. refl;
   not_image = λ rule is. absurd (cc);
   refused = u.barred;
   later = u.later;
@@ -139,7 +133,6 @@ runs_over way Takes Leaves status d s state replays opened works = record {
         some = opened.some;
         on = λ t starts. let keeps = opened.keeps t starts in (keeps_rests _ state t replays keeps, works.leaves _ t keeps);
       });
-  unwritten = works.unwritten;
   not_image = λ rule is. absurd (served_rule works.served is);
   refused = λ rule is. absurd (opened.bars rule is);
   later = let before = opened.later in let after = works.later in omega (arith, before, after);

@@ -5,19 +5,15 @@ use Rattle.ct_base.specs.Format.{IsFormatted}
 use Rattle.ct_call.specs.Seen.{ready_in}
 use Rattle.ct_call.specs.declared.mount.Why.{Why}
 use Rattle.ct_call.specs.declared.mount.Why.TheVariants.{Damage}
-use Rattle.ct_chain.proofs.Chained.{stopped_still}
 use Rattle.ct_format.specs.Formatting.{Formats, IsFormatWord}
 use Rattle.ct_format.specs.Made.{IsMissized, IsNew}
 use Rattle.ct_fs.specs.Mounts.{fs_dev}
 use Rattle.ct_fs.specs.declared.system.Fs.{Fs}
 use Rattle.ct_pm.specs.Device.{SameOff}
 use Rattle.ct_pm.specs.Images.{History}
-use Rattle.ct_script.specs.Script.{whole}
-use Rattle.ct_script.specs.Texts.{reply_line}
-use Rattle.ct_tree.specs.Tree.{Tree}
 use Rattle.ct_shell.proofs.Kept.{dev_moment, ready_moment, some_and}
-use Rattle.ct_shell.specs.Moments.{IsBegunOf, Moment, Passed, moment, moment_in}
-use Rattle.ct_run.specs.Ends.{IsMade, Waits, status_of}
+use Rattle.ct_shell.specs.Moments.{Moment, moment, moment_in}
+use Rattle.ct_run.specs.Ends.{IsMade, status_of}
 use Rattle.ct_run.specs.Images.{IsRefusal}
 use Rattle.ct_run.specs.declared.status.Status.{Status}
 
@@ -27,10 +23,6 @@ refused_size why status rule pages of missized size =
     let is : Some why ≡ Some (Damage rule) = (size rule).1 missized in
     let same : why ≡ Damage rule = cc in
     inl (of ∙ ap status_of same)
-
--- no item was served
-pub waits : (c : ℕ) (t : Tree) (given : List ℕ) (a : Option (List ℕ)) (f : Moment) → Waits c t given a a f f
-waits c t given a f = record { stopped = stopped_still (Passed c) IsBegunOf reply_line t (whole given) a f; unwritten = refl; still = refl }
 
 -- a file system that was made stands from then on
 pub made_at : {D : Type 0} {bound : _} (inodes pages : ℕ) (fs : Fs D bound) (words : List ℕ) (old : Option History) → IsSomeAnd (ready_in fs.state) (λ now. IsNew (bound.words now.dev) now.frames pages inodes)

@@ -1,5 +1,5 @@
 -- What is promised of each command, and of the ways in which a run ends, by what is promised of a run.
-use Rattle.std.proofs.Common.{◌≡◌, ◌⊎◌, ℕ, ◌<◌, ◌≤◌, List, Option, Some, None, length, refl, inl, inr, sym, subst, true≢false, ◌∙◌, arith}
+use Rattle.std.proofs.Common.{◌≡◌, ◌≢◌, ◌⊎◌, ℕ, ◌<◌, ◌≤◌, List, Option, Some, None, length, refl, inl, inr, sym, subst, true≢false, ◌∙◌, arith}
 use Rattle.std.specs.Prelude.{IfSome, IsSome, IsSomeAnd}
 use Rattle.ct_base.specs.Causes.{Rose}
 use Rattle.ct_base.specs.View.{inode_count}
@@ -11,7 +11,7 @@ use Rattle.ct_run.proofs.Scripts.{gave_long, gave_short}
 use Rattle.ct_run.proofs.Written.{long_or_short}
 use Rattle.ct_run.specs.Carried.{EndsAs, LeavesBy, RunsAs, Streams}
 use Rattle.ct_run.specs.Dumps.{EndsDump}
-use Rattle.ct_run.specs.Ends.{Ends, EndsMem, IsCutShort, IsDoneOrNoMemory, IsMade, IsServed, IsUnbegun, IsUnused, Leaves}
+use Rattle.ct_run.specs.Ends.{Ends, EndsMem, IsDoneOrNoMemory, IsMade, IsServed, IsUnbegun, IsUnused}
 use Rattle.ct_run.specs.Images.{EndsFormat, EndsRun, IsNoImage, Mounts}
 use Rattle.ct_run.specs.Limits.{IsShortEnough, WasTooLong}
 use Rattle.ct_run.specs.Opened.{Devices, Fails, Opens, Stood}
@@ -54,9 +54,8 @@ unread_by dump c t status s begin to other leaves = leaves.0
 script_long : (c : ℕ) (t : Tree) (rest rest' old new : Option (List ℕ)) (begin to : Moment) → Ends c t TooLong rest rest' old new begin to → IfSome rest (λ text. 16777216 < length text)
 script_long c t rest rest' old new begin to ends = gave_long rest rest' ends.given ends.gave ends.leaves.0
 
-script_short : (c : ℕ) (t : Tree) (status : Status) (rest rest' old new : Option (List ℕ)) (begin to : Moment) → (status ≡ Done) ⊎ (status ≡ WriteFault) → Ends c t status rest rest' old new begin to → IsSomeAnd rest (λ text. 16777216 < length text) → ⊥
-script_short c t status rest rest' old new begin to (inl is) ends long = let at = subst (λ x. Leaves c t x ends.given rest' old new begin to) is ends.leaves in gave_short rest rest' ends.given ends.gave at.0.0 at.0.1 long
-script_short c t status rest rest' old new begin to (inr is) ends long = let at = subst (λ x. Leaves c t x ends.given rest' old new begin to) is ends.leaves in gave_short rest rest' ends.given ends.gave at.0.0 at.0.1 long
+script_short : (c : ℕ) (t : Tree) (rest rest' old new : Option (List ℕ)) (begin to : Moment) → Ends c t Done rest rest' old new begin to → IsSomeAnd rest (λ text. 16777216 < length text) → ⊥
+script_short c t rest rest' old new begin to ends long = gave_short rest rest' ends.given ends.gave ends.leaves.0.0 ends.leaves.0.1 long
 
 long_not_short : (rest : Option (List ℕ)) → IfSome rest (λ text. 16777216 < length text) → IsSomeAnd rest (λ text. length text ≤ 16777216) → ⊥
 long_not_short None long short = short
@@ -74,12 +73,12 @@ module _ {S O : Type 0} (pages : ℕ) (s : Streams S O) (from to : Moment) where
   too_long_over (Gen number count) stood = (stood.on stood.some.0 stood.some.1).1.1
   too_long_over Dump stood = λ t tree lands. (stood.on t (tree, lands)).1.1.0
 
-  cut_over : (command : Command) (status : Status) → TakesScript (Some command) → (status ≡ Done) ⊎ (status ≡ WriteFault) → StoodFor command status → IsSomeAnd s.rest (λ text. 16777216 < length text) → ⊥
-  cut_over Mem status takes is stood long = script_short _ _ status s.rest s.rest' s.old s.new stood.begin to is (stood.on stood.some.0 stood.some.1).1 long
-  cut_over Run status takes is stood long = script_short _ _ status s.rest s.rest' s.old s.new stood.begin to is (stood.on stood.some.0 stood.some.1).1 long
-  cut_over (Format inodes) status takes is stood long = takes
-  cut_over (Gen number count) status takes is stood long = takes
-  cut_over Dump status takes is stood long = takes
+  done_over : (command : Command) → TakesScript (Some command) → StoodFor command Done → IsSomeAnd s.rest (λ text. 16777216 < length text) → ⊥
+  done_over Mem takes stood long = script_short _ _ s.rest s.rest' s.old s.new stood.begin to (stood.on stood.some.0 stood.some.1).1 long
+  done_over Run takes stood long = script_short _ _ s.rest s.rest' s.old s.new stood.begin to (stood.on stood.some.0 stood.some.1).1 long
+  done_over (Format inodes) takes stood long = takes
+  done_over (Gen number count) takes stood long = takes
+  done_over Dump takes stood long = takes
 
   short_over : (command : Command) → StoodFor command TooLong → IsShortEnough (Some command) s.rest from.words → ⊥
   short_over Mem stood short = long_not_short s.rest (too_long_over Mem stood) short
@@ -171,19 +170,12 @@ module _ {D S O : Type 0} (command : Option Command) (status : Status) (d : Devi
   pub ends_too_long : status ≡ TooLong → WasTooLong command s.rest d.from.words
   ends_too_long is = long_by command refl is
 
-  cut_by : (o : Option Command) → command ≡ o → TakesScript o → IsSomeAnd s.rest (λ text. 16777216 < length text) → (other : Status) → status ≡ other → IsCutShort other
-  cut_by None is takes long other at = absurd takes
-  cut_by (Some k) is takes long Done at = cut_over d.pages s d.from d.to k Done takes (inl refl) (stood_for k Done is at tt (λ same. absurd (cc))) long
-  cut_by (Some k) is takes long WriteFault at = cut_over d.pages s d.from d.to k WriteFault takes (inr refl) (stood_for k WriteFault is at tt (λ same. absurd (cc))) long
-  cut_by (Some k) is takes long Usage at = tt
-  cut_by (Some k) is takes long (NotImage rule) at = tt
-  cut_by (Some k) is takes long DeviceFault at = tt
-  cut_by (Some k) is takes long ReadFault at = tt
-  cut_by (Some k) is takes long NoMemory at = tt
-  cut_by (Some k) is takes long TooLong at = tt
+  undone_by : (o : Option Command) → command ≡ o → TakesScript o → IsSomeAnd s.rest (λ text. 16777216 < length text) → status ≡ Done → ⊥
+  undone_by None is takes long at = takes
+  undone_by (Some k) is takes long at = done_over d.pages s d.from d.to k takes (stood_for k Done is at tt (λ same. absurd (cc))) long
 
-  pub ends_cut : TakesScript command → IsSomeAnd s.rest (λ text. 16777216 < length text) → IsCutShort status
-  ends_cut takes long = cut_by command refl takes long status refl
+  pub ends_undone : TakesScript command → IsSomeAnd s.rest (λ text. 16777216 < length text) → status ≢ Done
+  ends_undone takes long = undone_by command refl takes long
 
   -- a run that ends in no other way is done, or memory ran out
   whole_by : (o : Option Command) → command ≡ o → IsSome o → ((rule : ℕ) → IsNoImage o d.pages d.from.words rule → ⊥) → (Rose d.faults d.faults' → ⊥) → (Rose s.source s.source' → ⊥) → (Rose s.sink s.sink' → ⊥) → IsShortEnough o s.rest d.from.words

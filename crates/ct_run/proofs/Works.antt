@@ -40,7 +40,6 @@ pub works_calls : {D S O : Type 0} {bound : _} (number count : ℕ) (status : St
 works_calls number count status state to faults' stands input out out' rest old new source sink sink' served leaves later device write = record {
   served = served;
   leaves = λ c t keeps. (refl, leaves c t keeps);
-  unwritten = λ is. absurd is;
   later = later stands.0 stands.1.0 stands.1.1;
   causes = record {
     device_fault = device stands.0 stands.1.0 stands.1.1;
@@ -54,7 +53,6 @@ pub works_nothing : {D S O : Type 0} {bound : _} (state : Option (State D bound)
 works_nothing state input out rest old source sink = record {
   served = tt;
   leaves = λ c t keeps. ((refl, refl), refl, refl);
-  unwritten = λ is. absurd is;
   later = omega arith;
   causes = record { device_fault = λ is. absurd (cc); read_fault = λ is. absurd (cc); write_fault = λ is. absurd (cc) };
 }

@@ -40,7 +40,6 @@ pub works_dump : {D S O : Type 0} {bound : _} (status : Status) (state : Option 
 works_dump status state stands input out out' rest old new source sink sink' served wrote write = record {
   served = served;
   leaves = λ c t keeps. (refl, wrote c t keeps, refl);
-  unwritten = λ is. absurd is;
   later = omega arith;
   causes = record {
     device_fault = λ is. absurd (subst (λ s. WroteDump s stands.1.0 old new) is (wrote stands.0 stands.1.0 stands.1.1));

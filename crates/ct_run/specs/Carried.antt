@@ -4,11 +4,12 @@ use Rattle.ct_base.specs.declared.layout.TheConstants.{PAGE_BYTES}
 use Rattle.ct_call.specs.Calls.{Keeps}
 use Rattle.ct_call.specs.Seen.{faults_in}
 use Rattle.ct_call.specs.declared.mount.State.{State}
+use Rattle.ct_script.specs.Feed.{unasked}
 use Rattle.ct_shell.specs.Moments.{Moment, moment_in}
 use Rattle.ct_tally.specs.Tried.{workload}
 use Rattle.ct_tree.specs.Tree.{Tree}
 use Rattle.ct_run.specs.Dumps.{WroteDump}
-use Rattle.ct_run.specs.Ends.{Ends, HasCauses, IsServed, IsUnbegun, IsUnserved, IsUnused}
+use Rattle.ct_run.specs.Ends.{Ends, HasCauses, IsServed, IsUnbegun, IsUnused}
 use Rattle.ct_run.specs.Images.{IsNoImage, IsRefusal, IsUntouched, Settles}
 use Rattle.ct_run.specs.Opened.{Devices, Fails, Stood}
 use Rattle.ct_run.specs.Ways.{Bars, IsMounting, IsScript, Work, calls, dump, nothing, script}
@@ -18,7 +19,6 @@ use Rattle.ct_run.specs.declared.command.Command.{Command}
 use Rattle.ct_run.specs.declared.job.Job.{Job}
 use Rattle.ct_run.specs.declared.job.Job.TheVariants.{Script, Nothing, Calls, Dump}
 use Rattle.ct_run.specs.declared.opening.Way.{Way}
-use Rattle.ct_run.specs.declared.serving.TheConstants.{SCRIPT_BYTES}
 use Rattle.ct_run.specs.declared.status.Status.{Status}
 use Rattle.ct_run.specs.declared.status.Status.TheVariants.{Done, NotImage, Usage}
 
@@ -60,9 +60,9 @@ work_in Nothing = nothing
 work_in (Calls number count page) = calls number count
 work_in (Dump quote) = dump
 
--- a job has the memory of its work
+-- a job has the memory of its work, and nothing was asked of the input yet
 abbrev pub HasMemory : Job → Type 0
-HasMemory (Script buffers) = length buffers.script.items ≡ SCRIPT_BYTES + 1
+HasMemory (Script buffers) = buffers.feed ≡ unasked
 HasMemory (Calls number count page) = length page.bytes.items ≡ PAGE_BYTES
 HasMemory job = Unit {0}
 
@@ -87,7 +87,6 @@ LeavesBy dump c t status s begin to = (s.input' ≡ s.input) × WroteDump status
 pub record WorksOver {D S O : Type 0} {bound : _} (Takes : Type 0) (Leaves : ℕ → Tree → Moment → Type 0) (status : Status) (state : Option (State D bound)) (faults' : ℕ) (s : Streams S O) : Type 0 where
   pub served : IsServed status
   pub leaves : (c : ℕ) (t : Tree) → Keeps c state t → Leaves c t (moment_in state)
-  pub unwritten : Takes → IsUnserved status → s.out' ≡ s.out
   pub later : faults_in state ≤ faults'
   pub causes : HasCauses status (faults_in state) faults' s.source s.source' s.sink s.sink'
 
@@ -102,7 +101,6 @@ pub record RunsOver {D S O : Type 0} (way : Way) (Takes : Type 0) (Leaves : ℕ 
   pub untouched : IsUnbegun status → (d.dev' ≡ d.dev) ⊎ (IsMounting way × Settles d.from d.to)
   pub head : (rule : ℕ) → status ≡ NotImage rule → rule < 8 → d.dev' ≡ d.dev
   pub ends : IsServed status → IsUnused s.input s.input' s.out s.out' × Fails way status d.from d.to ⊎ Stood way d.pages d.from Leaves
-  pub unwritten : Takes → IsUnserved status → s.out' ≡ s.out
   pub not_image : (rule : ℕ) → status ≡ NotImage rule → Bars way d.pages d.from.words rule
   pub refused : (rule : ℕ) → Bars way d.pages d.from.words rule → IsRefusal rule status
   pub later : d.faults ≤ d.faults'
@@ -123,7 +121,6 @@ pub record RunsAs {D S O : Type 0} (command : Option Command) (status : Status) 
   pub untouched : IsUnbegun status → IsUntouched command d.dev d.dev' d.from d.to
   pub head : (rule : ℕ) → status ≡ NotImage rule → rule < 8 → d.dev' ≡ d.dev
   pub ends : IsServed status → EndsAs command d.pages status s d.from d.to
-  pub unwritten : TakesScript command → IsUnserved status → s.out' ≡ s.out
   pub not_image : (rule : ℕ) → status ≡ NotImage rule → IsNoImage command d.pages d.from.words rule
   pub refused : (rule : ℕ) → IsNoImage command d.pages d.from.words rule → IsRefusal rule status
   pub later : d.faults ≤ d.faults'

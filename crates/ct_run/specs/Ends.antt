@@ -1,6 +1,6 @@
 -- The ways in which a run may end, and what it leaves.
 use Rattle.std.specs.Prelude.{◌≡◌, ◌⊎◌, ℕ, ◌+◌, ◌≤◌, List, [], length, Ok, Err}
-use Rattle.std.specs.Io.KnownBytes.{Consumes, IsAtEnd}
+use Rattle.std.specs.Io.KnownBytes.{Consumes}
 use Rattle.std.specs.declared.option.Option.{Option}
 use Rattle.std.specs.declared.result.Result.{Result}
 use Rattle.ct_base.specs.Causes.{Rose}
@@ -10,29 +10,19 @@ use Rattle.ct_format.specs.Formatting.{Formats, IsFormatImage, IsFormatWord}
 use Rattle.ct_call.specs.declared.mount.Why.{Why}
 use Rattle.ct_call.specs.declared.mount.Why.TheVariants.{Damage, Fault, Memory}
 use Rattle.ct_pm.specs.Device.{SameOff}
-use Rattle.ct_script.specs.Script.{items, whole}
+use Rattle.ct_script.specs.Script.{items}
+use Rattle.ct_script.specs.declared.feed.TheConstants.{SCRIPT_BYTES}
+use Rattle.ct_tree.specs.Runs.{Item}
 use Rattle.ct_tree.specs.Tree.{Dir, Tree, none}
 use Rattle.ct_shell.specs.Moments.{Begins, Moment}
-use Rattle.ct_shell.specs.Served.{Served, Stopped, StoppedBy}
-use Rattle.ct_shell.specs.declared.call.ServeEnd.{ServeEnd}
+use Rattle.ct_shell.specs.Served.{Served}
+use Rattle.ct_shell.specs.Stream.{Halted, IsReadWhole, Paused}
 use Rattle.ct_shell.specs.declared.call.ServeEnd.TheVariants.{Device, Output}
-use Rattle.ct_shell.specs.declared.script.ReadEnd.{ReadEnd}
-use Rattle.ct_shell.specs.declared.script.ReadEnd.TheVariants.{Fault as Unreadable, TooLong as Overlong}
+use Rattle.ct_shell.specs.declared.script.StreamEnd.{StreamEnd}
+use Rattle.ct_shell.specs.declared.script.StreamEnd.TheVariants.{Device as FsFailed, Output as SinkFailed, Input as SourceFailed, TooLong as OverLimit}
 use Rattle.ct_run.specs.Words.{mem_inodes}
-use Rattle.ct_run.specs.declared.serving.TheConstants.{SCRIPT_BYTES}
 use Rattle.ct_run.specs.declared.status.Status.{Status}
 use Rattle.ct_run.specs.declared.status.Status.TheVariants.{Done, Usage, NotImage, DeviceFault, ReadFault, WriteFault, NoMemory, TooLong}
-
--- the script was not read whole; a device may have failed before
-abbrev pub IsCutShort : Status → Type 0
-IsCutShort Usage = Unit {0}
-IsCutShort (NotImage rule) = Unit {0}
-IsCutShort DeviceFault = Unit {0}
-IsCutShort ReadFault = Unit {0}
-IsCutShort NoMemory = Unit {0}
-IsCutShort TooLong = Unit {0}
-IsCutShort Done = ⊥
-IsCutShort WriteFault = ⊥
 
 abbrev pub IsDoneOrNoMemory : Status → Type 0
 IsDoneOrNoMemory Done = Unit {0}
@@ -59,35 +49,14 @@ IsServed NoMemory = ⊥
 abbrev pub IsUnbegun : Status → Type 0
 IsUnbegun status = IsServed status → ⊥
 
--- no item was served
-abbrev pub IsUnserved : Status → Type 0
-IsUnserved Done = ⊥
-IsUnserved DeviceFault = ⊥
-IsUnserved WriteFault = ⊥
-IsUnserved ReadFault = Unit {0}
-IsUnserved TooLong = Unit {0}
-IsUnserved Usage = Unit {0}
-IsUnserved (NotImage rule) = Unit {0}
-IsUnserved NoMemory = Unit {0}
-
--- the input was read to its end, and gave no more bytes than a script may have
-abbrev pub IsReadWhole : List ℕ → Option (List ℕ) → Type 0
-IsReadWhole given rest = IsAtEnd rest × (length given ≤ SCRIPT_BYTES)
-
--- no item was served of those whose lines were ended: nothing was written, and no step was made
-pub record Waits (c : ℕ) (t : Tree) (given : List ℕ) (old new : Option (List ℕ)) (from to : Moment) : Type 0 where
-  pub stopped : Stopped c t (whole given) old new from to
-  pub unwritten : new ≡ old
-  pub still : to ≡ from
-
 -- what is left, by the status
 abbrev pub Leaves : ℕ → Tree → Status → List ℕ → Option (List ℕ) → Option (List ℕ) → Option (List ℕ) → Moment → Moment → Type 0
 Leaves c t Done given rest old new from to =
     IsReadWhole given rest × ((left : Tree) × Holds c left to.words to.told × Served c t left (items given) [] old new from to)
-Leaves c t DeviceFault given rest old new from to = IsReadWhole given rest × StoppedBy Device c t (items given) old new from to
-Leaves c t WriteFault given rest old new from to = IsReadWhole given rest × StoppedBy Output c t (items given) old new from to
-Leaves c t ReadFault given rest old new from to = (length given ≤ SCRIPT_BYTES) × Waits c t given old new from to
-Leaves c t TooLong given rest old new from to = (length given ≡ SCRIPT_BYTES + 1) × Waits c t given old new from to
+Leaves c t DeviceFault given rest old new from to = (length given ≤ SCRIPT_BYTES) × Halted Device c t given rest old new from to
+Leaves c t WriteFault given rest old new from to = (length given ≤ SCRIPT_BYTES) × Halted Output c t given rest old new from to
+Leaves c t ReadFault given rest old new from to = (length given ≤ SCRIPT_BYTES) × Paused c t given [] old new from to
+Leaves c t TooLong given rest old new from to = (length given ≡ SCRIPT_BYTES + 1) × ((left : List Item) × Paused c t given left old new from to)
 Leaves c t Usage given rest old new from to = ⊥
 Leaves c t (NotImage rule) given rest old new from to = ⊥
 Leaves c t NoMemory given rest old new from to = ⊥
@@ -134,16 +103,13 @@ status_of (Damage rule) = NotImage rule
 status_of Fault = DeviceFault
 status_of Memory = NoMemory
 
--- how a run ends whose script was not read whole
-abbrev pub unread_status : ReadEnd → Status
-unread_status Unreadable = ReadFault
-unread_status Overlong = TooLong
-
 -- how a run ends whose script was served so
-abbrev pub served_status : {A : Type 0} → Result A ServeEnd → Status
-served_status (Ok done) = Done
-served_status (Err Device) = DeviceFault
-served_status (Err Output) = WriteFault
+abbrev pub stream_status : {A : Type 0} → Result A StreamEnd → Status
+stream_status (Ok done) = Done
+stream_status (Err FsFailed) = DeviceFault
+stream_status (Err SinkFailed) = WriteFault
+stream_status (Err SourceFailed) = ReadFault
+stream_status (Err OverLimit) = TooLong
 
 -- the exit status of a program
 abbrev pub code_of : Status → ℕ

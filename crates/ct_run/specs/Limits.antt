@@ -6,7 +6,7 @@ use Rattle.ct_tree.specs.Tree.{Tree}
 use Rattle.ct_run.specs.Dumps.{HasLongPath, HasShortPaths}
 use Rattle.ct_run.specs.Ways.{Work, calls, dump, nothing, script}
 use Rattle.ct_run.specs.Words.{work_of}
-use Rattle.ct_run.specs.declared.serving.TheConstants.{SCRIPT_BYTES}
+use Rattle.ct_script.specs.declared.feed.TheConstants.{SCRIPT_BYTES}
 use Rattle.ct_run.specs.declared.command.Command.{Command}
 
 -- what was too long where a run ends so, by what it does, the input and the words of the device

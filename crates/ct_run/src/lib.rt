@@ -15,6 +15,5 @@ mod top;
 mod working;
 
 pub use command::{Command, command_of};
-pub use serving::SCRIPT_BYTES;
 pub use status::{Outcome, Status};
 pub use top::run;

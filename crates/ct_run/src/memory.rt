@@ -1,32 +1,29 @@
 // The memory of a run.
-ghost use Rattle.std.specs.Prelude.{◌≡◌, ◌+◌, IfOk, length};
+ghost use Rattle.std.specs.Prelude.{◌≡◌, IfOk, length};
+ghost use Rattle.ct_script.specs.Feed.{unasked};
 
-use crate::serving::SCRIPT_BYTES;
 use ct_base::{NoMemory, PAGE_BYTES};
-use ct_script::Scratch;
+use ct_script::{Feed, Scratch};
 use ct_shell::ReplyBuffers;
 use std::alloc::Global;
 
-/// The memory of a script: for itself, for one call, and for its reply.
+/// The memory of a script: for one line, for its call, and for the reply.
 #[derive(Drop)]
 pub struct Buffers {
-    pub(crate) script: Vec<u8>,
+    pub(crate) feed: Feed,
     pub(crate) scratch: Scratch,
     pub(crate) replies: ReplyBuffers,
 }
 
 impl Buffers {
     pub fn new(alloc: Global) -> Result<Buffers, NoMemory>
-        ensures { IfOk result (λ buffers. length buffers.script.items ≡ SCRIPT_BYTES + 1) }
+        ensures { IfOk result (λ buffers. buffers.feed ≡ unasked) }
     {
-        let script = match vec![in alloc; 0u8; SCRIPT_BYTES + 1] {
-            Ok(script) => script,
-            Err(_) => return Err(NoMemory),
-        };
+        let feed = Feed::new(alloc)?;
         let scratch = Scratch::new(alloc)?;
         let replies = ReplyBuffers::new(alloc)?;
         Ok(Buffers {
-            script,
+            feed,
             scratch,
             replies,
         })

@@ -1,5 +1,5 @@
 // The top call.
-ghost use Rattle.std.specs.Prelude.{◌≡◌, ◌<◌, ◌≤◌, ◌↔◌, ℕ, None, Some, IsSome, IsSomeAnd, map, length, string_bytes};
+ghost use Rattle.std.specs.Prelude.{◌≡◌, ◌≢◌, ◌<◌, ◌≤◌, ◌↔◌, ℕ, None, Some, IsSome, IsSomeAnd, map, length, string_bytes};
 ghost use Rattle.ct_base.specs.Causes.{Rose};
 ghost use Rattle.ct_base.specs.View.{inode_count};
 ghost use Rattle.ct_pm.specs.Device.{NothingPending};
@@ -8,7 +8,7 @@ ghost use Rattle.ct_tree.specs.Ordered.{IsTree};
 ghost use Rattle.ct_tree.specs.Tree.{Tree};
 ghost use Rattle.ct_run.specs.Carried.{RunsAs, streams};
 ghost use Rattle.ct_run.specs.Dumps.{EndsDump};
-ghost use Rattle.ct_run.specs.Ends.{EndsMem, HasCauses, IsCutShort, IsDoneOrNoMemory, IsServed, IsUnbegun, IsUnserved, IsUnused};
+ghost use Rattle.ct_run.specs.Ends.{EndsMem, HasCauses, IsDoneOrNoMemory, IsServed, IsUnbegun, IsUnused};
 ghost use Rattle.ct_run.specs.Images.{EndsFormat, EndsRun, IsNoImage, IsRefusal, IsUntouched, Mounts};
 ghost use Rattle.ct_run.specs.Limits.{IsShortEnough, WasTooLong};
 ghost use Rattle.ct_run.specs.Opened.{devices};
@@ -20,10 +20,10 @@ ghost use Rattle.ct_shell.specs.Moments.{moment};
 use crate::command::{Command, command_of};
 use crate::job::Job;
 use crate::opening::open;
-use crate::serving::SCRIPT_BYTES;
 use crate::status::{Outcome, Status, refused};
 use ct_base::{Sink, Source};
 use ct_pm::Pm;
+use ct_script::SCRIPT_BYTES;
 use std::alloc::Global;
 
 /// Runs a command in three steps: it takes the memory of its job, its file system comes to stand, and the job is done over it.
@@ -111,8 +111,11 @@ pub fn run<D: Pm, S: Source, O: Sink>(
 
     // Else the device failed while the file system was made, and nothing was read or written; or from some moment on it stood.
     //
-    // Where the run is done, the input was read to its end, what was written are the replies to its items, and the device holds
-    // the tree after them. On any other status they are the replies to some of the items, the last perhaps in part.
+    // Each line is served as soon as it has come. Where the run is done, the input was read to its end, what was written are the
+    // replies to its items, and the device holds the tree after them. Where the input failed, the same holds of the lines that were
+    // ended; where it was too long, of the first of these, and one byte more was taken than a script may have. Where the device or
+    // the output failed, the replies are those to some of the items, the last perhaps in part: to items of lines that were ended,
+    // unless the input had come to its end.
     //
     // There is a moment for each item: when it is answered, a crash leaves only what lands on the tree after it, and since the
     // one before on that or on the tree before. So in the end a crash leaves what lands on the tree after the items whose replies
@@ -160,9 +163,6 @@ pub fn run<D: Pm, S: Source, O: Sink>(
         → EndsDump (inode_count (D.words dev)) t result.status out.old out.new (O.written out.old) (O.written out.new)
         (moment (D.told dev) (D.words dev)) (moment (D.told result.dev) (D.words result.dev))) }
 
-    // No item of a script was served: nothing was written.
-    ensures unwritten { TakesScript (command_of (map (λ w. string_bytes w) words.now)) → IsUnserved result.status → out.new ≡ out.old }
-
     // The first mount rule that fails, or that on the device's size where it is to be formatted; exactly, where memory did not run
     // out before, nor the device fail in the midst of a mount.
     ensures not_image { (rule : ℕ) → result.status ≡ Status.NotImage rule
@@ -178,7 +178,7 @@ pub fn run<D: Pm, S: Source, O: Sink>(
     // too long for a call.
     ensures too_long { result.status ≡ Status.TooLong → WasTooLong (command_of (map (λ w. string_bytes w) words.now)) (S.rest input.old) (D.words dev) }
     ensures long { TakesScript (command_of (map (λ w. string_bytes w) words.now))
-        → IsSomeAnd (S.rest input.old) (λ script. SCRIPT_BYTES < length script) → IsCutShort result.status }
+        → IsSomeAnd (S.rest input.old) (λ script. SCRIPT_BYTES < length script) → result.status ≢ Status.Done }
 
     // With a device that is an image for the command, no fault, no more bytes than that and no path that is too long, it is done.
     ensures complete { IsSome (command_of (map (λ w. string_bytes w) words.now))

@@ -1,5 +1,5 @@
 -- The entries of the root by their numbers, and the bytes of the files among them.
-use Rattle.std.proofs.Common.{◌≡◌, ◌∙◌, ℕ, zero, suc, ◌+◌, ◌*◌, ◌^◌, ◌<◌, ◌≤◌, List, Some, None, refl, sym, ap, subst, arith, true}
+use Rattle.std.proofs.Common.{◌≡◌, ◌∙◌, ℕ, zero, suc, ◌+◌, ◌*◌, ◌^◌, ◌<◌, ◌≤◌, List, Some, None, refl, sym, ap, subst, inl, inr, arith, true}
 use Rattle.std.specs.Prelude.{slice_get}
 use Rattle.std.proofs.lemmas.Cmp.{nat_list_cmp_total, tied_itself}
 use Rattle.std.specs.Ordering.{ordering_reverse}
@@ -8,9 +8,10 @@ use Rattle.ct_base.specs.Path.{is_name, name_cmp}
 use Rattle.ct_tree.specs.Entries.{by_order, lookup}
 use Rattle.ct_tree.specs.Ordered.{AreEntries, IsTree}
 use Rattle.ct_tree.specs.Resolve.{entries_in}
+use Rattle.ct_tree.specs.Stands.{HasName}
 use Rattle.ct_tree.specs.Step.{count, names_in}
 use Rattle.ct_tree.specs.Tree.{Tree, File, Dir, Entries, none, entry, nodes, nodes_below}
-use Rattle.ct_shell.proofs.Names.{below_each}
+use Rattle.ct_state.proofs.Unique.{below_has}
 use Rattle.ct_tally.specs.Tallies.{bytes_below, size_of}
 
 -- the bytes of the files among the first of the entries
@@ -22,6 +23,12 @@ bytes_to (entry name node rest) (suc i) = size_of node + bytes_to rest i
 pub bytes_zero : (es : Entries) → bytes_to es 0 ≡ 0
 bytes_zero none = refl
 bytes_zero (entry name node rest) = refl
+
+-- a name with a number is one of the entries'
+has_name : (es : Entries) (i : ℕ) (x : List ℕ) → slice_get (names_in es) i ≡ Some x → HasName x es
+has_name none i x is = absurd (cc)
+has_name (entry y m rest) zero x is = let same : x ≡ y = cc in inl same
+has_name (entry y m rest) (suc i) x is = inr (has_name rest i x is)
 
 -- the entry with a number, where its name is this
 pub record Numbered (es : Entries) (i : ℕ) (x : List ℕ) : Type 0 where
@@ -43,7 +50,7 @@ numbered (entry y m rest) zero x are is =
     })
 numbered (entry y m rest) (suc i) x are is =
     let it = numbered rest i x are.3 is in
-    let past : name_cmp x y ≡ Greater = nat_list_cmp_total.antisymm x y ∙ ap ordering_reverse (below_each y rest i x are.2 is) in
+    let past : name_cmp x y ≡ Greater = nat_list_cmp_total.antisymm x y ∙ ap ordering_reverse (below_has y x rest are.2 (has_name rest i x is)) in
     let on : suc (i + 1) ≡ suc i + 1 = omega arith in
     let step : bytes_to (entry y m rest) (suc i + 1) ≡ size_of m + bytes_to rest (i + 1) = ap (bytes_to (entry y m rest)) (sym on) in
     let more = it.more in

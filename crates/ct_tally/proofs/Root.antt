@@ -11,7 +11,8 @@ use Rattle.ct_dump.proofs.Places.{at_below, names_below}
 use Rattle.ct_look.specs.Looks.{IsLook, next_name, stat_answer}
 use Rattle.ct_look.specs.declared.seen.Stat.{Stat}
 use Rattle.ct_look.specs.declared.seen.Stat.TheVariants.{File as FileStat, Dir as DirStat}
-use Rattle.ct_shell.proofs.Names.{first_name, get_within, next_later}
+use Rattle.ct_look.proofs.Following.{first_name, next_later}
+use Rattle.ct_shell.proofs.Names.{get_within}
 use Rattle.ct_state.proofs.LiveNodes.{nodes_most}
 use Rattle.ct_tree.specs.Checks.{at, bad_path, first_of, no_node, refuse_if}
 use Rattle.ct_tree.specs.Entries.{lookup}

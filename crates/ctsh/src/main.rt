@@ -24,7 +24,7 @@ usage: ctsh mem
 
 mem     makes a file system in memory, runs the script of standard input over it,
         and writes one line to standard output for each line of the script that is
-        not empty
+        not empty, as soon as that line has come
           ctsh mem < first.ctsh
 format  makes an empty file system of all whole 4096-byte pages of a regular file
         that is there, 256 to 262144 of them, with so many inodes, 2 to 1048576;
@@ -68,18 +68,19 @@ Lines of a script:
   where PATH    tells the address and the level of a file's partition
   read PATH OFF LEN
                 tells at most LEN bytes of a file from OFF on, as hexadecimal digits
-Any other line that is not empty is answered with 'error line'. In a path %XX is
-the byte XX.
+Any other line that is not empty is answered with 'error line', and so is one of
+over 65536 bytes. In a path %XX is the byte XX.
 
 Exit status, with a line on standard error where it is not 0:
   0  done
   2  the words are no command
   3  the file holds no file system, or a damaged one: the first rule that it breaks
   4  the file is not there, or cannot be read, written or synced
-  5  standard input cannot be read
+  5  standard input cannot be read; the lines before that were answered
   6  standard output cannot be written
   7  no memory
-  8  the script has over 16777216 bytes, or a path in the dump over 4096
+  8  the script has over 16777216 bytes, and only its first lines were answered,
+     or a path in the dump has over 4096
 ";
 
 /// Why the words are not known.

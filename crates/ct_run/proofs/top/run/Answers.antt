@@ -1,6 +1,6 @@
 use Rattle.std.proofs.Common.{Option, map, string_bytes, subst, sym}
 use Rattle.ct_run.proofs.Commands.{are_within}
-use Rattle.ct_run.proofs.Promised.{ends_cut, ends_dump, ends_format, ends_gen, ends_mem, ends_run, ends_too_long, ends_unmounted, ends_unread, ends_whole}
+use Rattle.ct_run.proofs.Promised.{ends_undone, ends_dump, ends_format, ends_gen, ends_mem, ends_run, ends_too_long, ends_unmounted, ends_unread, ends_whole}
 use Rattle.ct_run.specs.Carried.{RunsAs, streams}
 use Rattle.ct_run.specs.Opened.{devices}
 use Rattle.ct_run.specs.Words.{AreWithin, command_of}
@@ -34,12 +34,11 @@ returns g c =
       work_unread = λ number count is. ends_unread o status d s r (Gen number count) is (λ script. script);
       unmounted = ends_unmounted o status d s r;
       dump = λ is. (ends_unread o status d s r Dump is (λ script. script), ends_dump o status d s r is);
-      unwritten = r.unwritten;
       not_image = r.not_image;
       refused = r.refused;
       later = r.later;
       causes = r.causes;
       too_long = ends_too_long o status d s r;
-      long = ends_cut o status d s r;
+      long = ends_undone o status d s r;
       complete = ends_whole o status d s r;
     }

@@ -9,8 +9,8 @@ use Rattle.ct_run.proofs.Written.{works_dump}
 use Rattle.ct_shell.specs.Moments.{moment_in}
 use Rattle.ct_run.proofs.job.Job.work.Goals as goal
 
-pub serve_all-requires-clause-long : goal.serve_all-requires-clause-long
-serve_all-requires-clause-long g c = subst HasMemory c.in-Script.is c.requires.memory
+pub serve_all-requires-clause-unasked : goal.serve_all-requires-clause-unasked
+serve_all-requires-clause-unasked g c = subst HasMemory c.in-Script.is c.requires.memory
 
 pub work_and_tell-requires-clause-few : goal.work_and_tell-requires-clause-few
 work_and_tell-requires-clause-few g c = subst (λ (j : Job). IsWithinWork (work_in j)) c.in-Calls.is c.requires.fits

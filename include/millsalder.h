@@ -17,7 +17,7 @@
  *   another over a lock, a join or a sequentially consistent atomic.
  * - Not from a signal handler. After fork of a process with threads not in the child; after fork only one of the two
  *   processes ships what is asked.
- * - malloc, realloc and free are those of the C library, from any thread. Memory: the image's size and 1/32 of it in
+ * - malloc, realloc and free are those of the C library, from any thread. Memory: the image's size and 1/20 of it in
  *   msa_open and msa_format; in changes 80 bytes for each line that was asked since C last took all. Where that is not there a
  *   change, or the recovery of msa_open, answers MSA_FAULT, and nothing more is asked of the medium.
  * - 64 KiB of stack below the call, 128 KiB below those of millsalder_file.h.
@@ -37,7 +37,7 @@ extern "C" {
 
 /* The version of this header. A library with the same first number serves it: msa_abi() / 1000 == MSA_ABI / 1000. A number
  * of a status, a field or a function is never given another meaning; new ones may come under a higher second number. */
-#define MSA_ABI 1000u
+#define MSA_ABI 1001u
 
 #define MSA_PAGE 4096u                     /* bytes */
 #define MSA_FEWEST_PAGES 256u
@@ -73,8 +73,8 @@ enum {
     MSA_OVERLAP = 11,      /* two ranges of one file share a byte */
     MSA_TOO_LONG = 12,     /* more bytes than one call may read or exchange */
     MSA_NO_INODE = 13,     /* all inodes are in use */
-    MSA_NO_PARTITION = 14, /* no partition of the wanted level is free */
-    MSA_NO_PAGES = 15,     /* fewer pages are free than the call needs */
+    MSA_NO_PARTITION = 14, /* no partition is free: msa_space tells of which level */
+    MSA_NO_PAGES = 15,     /* fewer pages are free than the call needs: msa_space tells both */
     /* Not refused: the call is done whole or not at all, and which it was the next msa_open finds. Every later call on
      * this msa but msa_peek and msa_close answers MSA_DEAD. */
     MSA_FAULT = 64,        /* memory for what is asked ran out; in millsalder_file.h also: the file could not be written */
@@ -95,8 +95,17 @@ typedef struct msa_told {
     uint64_t size;
 } msa_told;
 
-/* MSA_ABI of the library. */
+/* The numbers of the last refusal for space: of which level no partition was free; or how many pages were
+ * free and how many the call needed; 0 where it was for the other, or there was none. And how many pages are free now, of all. */
+typedef struct msa_numbers {
+    uint32_t level;
+    uint64_t were_free, needed, free, pages;
+} msa_numbers;
+
+/* MSA_ABI of the library; the text of a status in English, of which as many bytes are put as have room, with no 0 behind
+ * them: the answer is the text's length. */
 uint32_t msa_abi(void);
+size_t msa_text(msa_status status, uint8_t *text, size_t room);
 
 /* --- an image ------------------------------------------------------------------------------------------------------- */
 
@@ -114,7 +123,8 @@ msa_status msa_close(msa *m);
 /* --- what the medium has to see ------------------------------------------------------------------------------------ */
 
 /* What is asked: a line of the image, 64 bytes at offset 64 * line, as eight words with the lowest byte first, is to be
- * written before the next sync is done; or, where is_sync, all that was written is to be there before anything else is. */
+ * written before the next sync is done; or, where is_sync, all that was written is to be there before anything else is. A line
+ * that reads as it was asked last is not asked again. */
 typedef struct msa_entry {
     bool is_sync;
     uint64_t line;
@@ -160,6 +170,7 @@ msa_status msa_seek_data(msa *m, const uint8_t *path, size_t path_len, uint64_t 
 /* The address and the level of a file's partition, 0 and 15 where it has none; the byte at an address below 2^48. */
 msa_status msa_locate(msa *m, const uint8_t *path, size_t path_len, uint64_t *address, uint32_t *level);
 msa_status msa_peek(msa *m, uint64_t address, uint8_t *byte);
+msa_status msa_space(msa *m, msa_numbers *numbers);
 
 #ifdef __cplusplus
 }

@@ -20,9 +20,7 @@ static inline int msa_file_put(int fd, const uint8_t *bytes, size_t len, off_t o
         ssize_t put = pwrite(fd, bytes, len, off);
         if (put < 0 && errno == EINTR) continue;
         if (put <= 0) return -1;
-        bytes += put;
-        len -= (size_t)put;
-        off += put;
+        bytes += put, off += put, len -= (size_t)put;
     }
     return 0;
 }
@@ -38,8 +36,7 @@ typedef struct msa_file_run {
 static inline int msa_file_flush(msa_file_run *run, int fd) {
     size_t used = run->used;
     if (!used) return 0;
-    run->is_written = true;
-    run->used = 0;
+    run->is_written = true, run->used = 0;
     return msa_file_put(fd, run->bytes, used, (off_t)(64 * run->first));
 }
 
@@ -79,23 +76,29 @@ failed:
 
 #define MSA_LOCK 1u /* an exclusive flock on the descriptor, or MSA_LOCKED at once; closing the descriptor gives it up */
 
-/* Opens the image of a file, and has the file see what its recovery asks. */
-static inline msa_status msa_file_open(msa *m, int fd, uint32_t flags) {
+/* Locks the file, where that is asked, and tells the bytes of its whole pages. */
+static inline msa_status msa_file_begin(int fd, uint32_t flags, size_t *len) {
     struct stat told;
     if (flags & ~MSA_LOCK) return MSA_MISUSE;
     if ((flags & MSA_LOCK) && flock(fd, LOCK_EX | LOCK_NB) != 0) return MSA_LOCKED;
     if (fstat(fd, &told) != 0) return MSA_NO_FILE;
-    size_t len = (size_t)told.st_size / MSA_PAGE * MSA_PAGE, got = 0;
+    *len = (size_t)told.st_size / MSA_PAGE * MSA_PAGE;
+    return MSA_OK;
+}
+
+/* Opens the image of a file, and has the file see what its recovery asks. */
+static inline msa_status msa_file_open(msa *m, int fd, uint32_t flags) {
+    size_t len = 0, got = 0;
+    msa_status status = msa_file_begin(fd, flags, &len);
+    if (status != MSA_OK) return status;
     uint8_t *image = (uint8_t *)malloc(len + 1);
     if (!image) return MSA_NO_MEMORY;
     while (got < len) {
         ssize_t more = pread(fd, image + got, len - got, (off_t)got);
-        if (more < 0 && errno == EINTR) continue;
-        if (more <= 0) break;
-        got += (size_t)more;
+        if (more == 0 || (more < 0 && errno != EINTR)) break;
+        if (more > 0) got += (size_t)more;
     }
-    /* What a killed writer left may not be synced yet. */
-    msa_status status = MSA_NO_FILE;
+    status = MSA_NO_FILE; /* what a killed writer left may not be synced yet */
     if (got == len && fdatasync(fd) == 0) status = msa_open(m, image, len);
     free(image);
     return status == MSA_OK ? msa_file_sync(m, fd) : status;
@@ -104,17 +107,13 @@ static inline msa_status msa_file_open(msa *m, int fd, uint32_t flags) {
 /* Makes an image of all whole pages of a file, and opens it. */
 static inline msa_status msa_file_format(msa *m, int fd, uint64_t inodes, uint32_t flags) {
     static const uint8_t zeros[42 * MSA_PAGE] = {0};
-    struct stat told;
-    if (flags & ~MSA_LOCK) return MSA_MISUSE;
-    if ((flags & MSA_LOCK) && flock(fd, LOCK_EX | LOCK_NB) != 0) return MSA_LOCKED;
-    if (fstat(fd, &told) != 0) return MSA_NO_FILE;
-    msa_status status = msa_format(m, (uint64_t)told.st_size / MSA_PAGE, inodes);
+    size_t len = 0;
+    msa_status status = msa_file_begin(fd, flags, &len);
+    if (status == MSA_OK) status = msa_format(m, len / MSA_PAGE, inodes);
     if (status != MSA_OK) return status;
-    if (msa_file_put(fd, zeros, sizeof zeros, 0) != 0 || fdatasync(fd) != 0) {
-        msa_close(m);
-        return MSA_FAULT;
-    }
-    return msa_file_sync(m, fd);
+    if (msa_file_put(fd, zeros, sizeof zeros, 0) == 0 && fdatasync(fd) == 0) return msa_file_sync(m, fd);
+    msa_close(m);
+    return MSA_FAULT;
 }
 
 #endif

@@ -77,4 +77,4 @@ lands_in op result (Some was) (Some now) changes before later ready is t stands 
 pub lands : (op : Op) (was now : Seat) (code : ℕ) → Calls op (Some was) (Some now) code → (before later : Volume OutboxPm)
     → mounted_in was.fs ≡ Some before → mounted_in now.fs ≡ Some later → (t : Tree) → StandsFor (words_of before.dev) t → (count : ℕ) → length (asks_of before.dev) ≤ count → (image : List ℕ)
     → MayHold (history before.dev).start (reverse (take count (asks_of later.dev))) image → Lands image t ⊎ Lands image (after t op)
-lands op was now code calls = lands_in op calls.0 was.fs now.fs calls.2.1
+lands op was now code calls = lands_in op calls.0 was.fs now.fs calls.2.2

@@ -17,7 +17,7 @@ use Rattle.pm_outbox.specs.Outbox.{history, words_of}
 use Rattle.pm_outbox.specs.contracts.outbox.OutboxPmPm.TheImpl.{ghosts}
 use Rattle.pm_outbox.specs.declared.outbox.OutboxPm.{OutboxPm}
 use Rattle.msa.specs.Mounts.{mounted_in, state_of}
-use Rattle.msa.specs.Opens.{Makes, Mounts}
+use Rattle.msa.specs.Opens.{Makes, Mounts, no_space}
 use Rattle.msa.specs.declared.codes.TheConstants.{NO_MEMORY}
 use Rattle.msa.specs.declared.seat.Seat.{Seat}
 
@@ -34,9 +34,9 @@ module _ (words : List ℕ) (fs : Fs OutboxPm ghosts)
   keeps_in : (o : Option (Fs OutboxPm ghosts)) → o ≡ Some fs → (t : Tree) → IsTree t → Lands words t → Keeps (inode_count words) (state_of o) t
   keeps_in o is t tree lands = subst (λ (o : Option (Fs OutboxPm ghosts)). Keeps (inode_count words) (state_of o) t) (sym is) (keeps t tree lands)
 
-  pub mounted : (now : Option Seat) (code : ℕ) → Judges words None → MatchOption now (code ≡ NO_MEMORY) (λ seat. (seat.fs ≡ Some fs) × (seat.taken ≡ 0) × (code ≡ 0)) → Mounts words now code
+  pub mounted : (now : Option Seat) (code : ℕ) → Judges words None → MatchOption now (code ≡ NO_MEMORY) (λ seat. (seat.fs ≡ Some fs) × (seat.taken ≡ 0) × (code ≡ 0) × (seat.space ≡ no_space)) → Mounts words now code
   mounted None code judged is = inr is
-  mounted (Some seat) code judged is = (is.2, record { judged = judged; keeps = keeps_in seat.fs is.0; recovers = recovers_in seat.fs is.0; taken = is.1 })
+  mounted (Some seat) code judged is = (is.2, record { judged = judged; keeps = keeps_in seat.fs is.0; recovers = recovers_in seat.fs is.0; taken = is.1; space = is.3 })
 
 -- what is said of the device of a format holds of the mount that is in the seat
 module _ (start : List ℕ) (inodes : ℕ) (fs : Fs OutboxPm ghosts) (keeps : Keeps inodes fs.state (Dir none))
@@ -47,7 +47,7 @@ module _ (start : List ℕ) (inodes : ℕ) (fs : Fs OutboxPm ghosts) (keeps : Ke
       let dev : fs_dev fs ≡ now.dev = ready_dev fs now (ap mounted_in (sym is) ∙ here) in
       subst (λ (d : OutboxPm). LeavesOnly (Some (record { start = start; steps = [] })) (Some (history d)) (IsFormatImage start)) dev moments
 
-  pub made : (now : Option Seat) (code : ℕ) → MatchOption now (code ≡ NO_MEMORY) (λ seat. (seat.fs ≡ Some fs) × (seat.taken ≡ 0) × (code ≡ 0)) → Makes start inodes now code
+  pub made : (now : Option Seat) (code : ℕ) → MatchOption now (code ≡ NO_MEMORY) (λ seat. (seat.fs ≡ Some fs) × (seat.taken ≡ 0) × (code ≡ 0) × (seat.space ≡ no_space)) → Makes start inodes now code
   made None code is = inr is
   made (Some seat) code is =
-      (is.2, record { keeps = subst (λ (o : Option (Fs OutboxPm ghosts)). Keeps inodes (state_of o) (Dir none)) (sym is.0) keeps; moments = moments_in seat.fs is.0; taken = is.1 })
+      (is.2, record { keeps = subst (λ (o : Option (Fs OutboxPm ghosts)). Keeps inodes (state_of o) (Dir none)) (sym is.0) keeps; moments = moments_in seat.fs is.0; taken = is.1; space = is.3 })

@@ -6,3 +6,5 @@ pub mod Opens
 pub mod Owning
 pub mod Seats
 pub mod Ships
+pub mod Spaces
+pub mod Texts

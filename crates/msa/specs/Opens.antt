@@ -19,6 +19,11 @@ use Rattle.msa.specs.Mounts.{state_of}
 use Rattle.msa.specs.Seats.{mount_in}
 use Rattle.msa.specs.declared.codes.TheConstants.{BUSY, MISUSE, NO_MEMORY}
 use Rattle.msa.specs.declared.seat.Seat.{Seat}
+use Rattle.msa.specs.declared.seat.Space.{Space}
+
+-- the numbers of a refusal for space before there was one
+abbrev pub no_space : Space
+no_space = record { level = 0; free = 0; need = 0 }
 
 -- the words were mounted: no mount rule fails on them, the seat has the tree on which they land, C has taken nothing yet, and
 -- whatever a crash leaves of what is asked since lands on that tree too
@@ -28,6 +33,7 @@ pub record Held (words : List ℕ) (seat : Seat) : Type 0 where
   pub recovers : (t : Tree) → Lands words t → (now : Volume OutboxPm) → mount_in seat ≡ Some now
       → Recovers t words (Some (record { start = words; steps = [] })) (Some (history now.dev)) (words_of now.dev)
   pub taken : seat.taken ≡ 0
+  pub space : seat.space ≡ no_space
 
 -- The words were mounted; or they were not, and the code is why: the first mount rule that fails on them, a fault, or want of
 -- memory.
@@ -57,6 +63,7 @@ pub record New (start : List ℕ) (inodes : ℕ) (seat : Seat) : Type 0 where
   pub keeps : Keeps inodes (state_of seat.fs) (Dir none)
   pub moments : (now : Volume OutboxPm) → mount_in seat ≡ Some now → LeavesOnly (Some (record { start = start; steps = [] })) (Some (history now.dev)) (IsFormatImage start)
   pub taken : seat.taken ≡ 0
+  pub space : seat.space ≡ no_space
 
 -- it was made, or there is none and the code is why
 abbrev pub Makes : List ℕ → ℕ → Option Seat → ℕ → Type 0

@@ -4,11 +4,12 @@ use Rattle.std.specs.Option.{option_map}
 use Rattle.ct_call.specs.Mounted.{Volume}
 use Rattle.ct_fs.specs.Mounts.{mounts}
 use Rattle.ct_fs.specs.declared.system.Fs.{Fs}
+use Rattle.pm_outbox.specs.Medium.{AllowsFronts}
 use Rattle.pm_outbox.specs.Outbox.{history, words_of}
 use Rattle.pm_outbox.specs.declared.ask.Ask.{Ask}
 use Rattle.pm_outbox.specs.declared.ask.Ask.TheVariants.{Write, Sync}
 use Rattle.pm_outbox.specs.declared.outbox.OutboxPm.{OutboxPm}
-use Rattle.msa.specs.Mounts.{asks_of}
+use Rattle.msa.specs.Mounts.{asks_of, HoldsWords}
 use Rattle.msa.specs.Seats.{mount_in}
 use Rattle.msa.specs.declared.codes.TheConstants.{CLOSED}
 use Rattle.msa.specs.declared.shipping.Entry.{Entry}
@@ -38,6 +39,7 @@ pub record Shows (asks : List Ask) (place : ℕ) (old new : List Entry) (count :
 pub record Goes (was now : Seat) (count : ℕ) : Type 0 where
   pub fs : now.fs ≡ was.fs
   pub taken : now.taken ≡ was.taken + count
+  pub space : now.space ≡ was.space
 
 -- the history begins again at the words as they read; they stay, and so do the free pages
 pub record Restarts {bound : _} (was now : Fs OutboxPm bound) : Type 0 where
@@ -48,12 +50,20 @@ pub record Restarts {bound : _} (was now : Fs OutboxPm bound) : Type 0 where
 pub record Begins (was now : Seat) : Type 0 where
   pub all : (before : Volume OutboxPm) → mount_in was ≡ Some before → was.taken ≡ length (asks_of before.dev)
   pub taken : now.taken ≡ 0
+  pub space : now.space ≡ was.space
   pub fs : IsSomeAnd was.fs (λ before. IsSomeAnd now.fs (λ after. Restarts before after))
+
+-- What C may promise of its medium: whatever it may hold that has seen a front of what was asked, a crash may have left at some
+-- moment; and once it has seen all, it holds the words as they read.
+pub record Promises (dev : OutboxPm) : Type 0 where
+  pub fronts : AllowsFronts (history dev)
+  pub all : HoldsWords dev
 
 -- what a take does to a seat and to C's buffer of entries; after a fault nothing is asked
 pub record Gives (was now : Seat) (old new : List Entry) (count : ℕ) : Type 0 where
   pub dead : IsNone (mount_in was) → (now.fs ≡ was.fs) × (new ≡ old) × (count ≡ 0)
   pub shows : (before : Volume OutboxPm) → mount_in was ≡ Some before → Shows (asks_of before.dev) was.taken old new count
+  pub medium : (before : Volume OutboxPm) → mount_in was ≡ Some before → Promises before.dev
   pub goes : Goes was now count ⊎ ((count ≡ 0) × Begins was now)
 
 abbrev pub Takes : Option Seat → Option Seat → List Entry → List Entry → ℕ → ℕ → ℕ → Type 0

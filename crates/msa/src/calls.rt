@@ -2,16 +2,16 @@
 ghost use Rattle.std.specs.Prelude.{◌≡◌, ℕ, Some};
 ghost use Rattle.ct_tree.specs.Step.{append as append_call, create as create_call, exchange as exchange_call, fill as fill_call, mkdir as mkdir_call, op_of, rename as rename_call, rmdir as rmdir_call, truncate as truncate_call, unlink as unlink_call, write as write_call};
 ghost use Rattle.ct_call.specs.Calls.{IsChange};
-ghost use Rattle.msa.specs.Calls.{Calls, Changes, ChangesFs};
+ghost use Rattle.msa.specs.Calls.{Calls, Changes, ChangesFs, refused_space, told_space};
 ghost use Rattle.msa.specs.Mounts.{HasPlace};
 
 use crate::codes::{CLOSED, code};
 use crate::handle::Handle;
-use crate::seat::{Seat, put_back};
+use crate::seat::{Seat, Space, put_back};
 use crate::taking::{put, take};
 use ct_call::FsError;
 use ct_fs::Fs;
-use ct_tree::Call;
+use ct_tree::{Call, Refusal};
 use pm_outbox::OutboxPm;
 use std::alloc::Global;
 
@@ -26,6 +26,37 @@ fn change_fs(fs: &mut Fs<OutboxPm>, call: &Call<'_>) -> Result<(), FsError>
     fs.change(call)
 }
 
+// The numbers of a refusal for space; after another one those that were there.
+fn space_of(before: Space, refusal: Refusal) -> Space
+    ensures { result ≡ refused_space before refusal }
+{
+    match refusal {
+        Refusal::NoPartition { level } => Space {
+            level,
+            free: 0,
+            need: 0,
+        },
+        Refusal::NoPages { free, need } => Space {
+            level: 0,
+            free,
+            need,
+        },
+        _ => before,
+    }
+}
+
+// The numbers after a call.
+fn space_after(before: Space, made: &Result<(), FsError>) -> Space
+    ensures { result ≡ told_space before made.now }
+{
+    match made {
+        Ok(()) => before,
+        Err(FsError::Dead) => before,
+        Err(FsError::Fault) => before,
+        Err(FsError::Refused(refusal)) => space_of(before, *refusal),
+    }
+}
+
 // Makes a call on a seat.
 fn change_in(seat: &mut Seat, call: &Call<'_>) -> Result<(), FsError>
     requires { IsChange (op_of call.now) }
@@ -35,6 +66,7 @@ fn change_in(seat: &mut Seat, call: &Call<'_>) -> Result<(), FsError>
         Some(mut fs) => {
             let made = change_fs(&mut fs, call);
             put_back(&mut seat.fs, fs);
+            seat.space = space_after(seat.space, &made);
             made
         }
         None => unreachable!(),

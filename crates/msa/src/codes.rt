@@ -30,7 +30,7 @@ pub const MISUSE: u32 = 71;
 pub const DAMAGE: u32 = 128;
 
 /// The version of the header that this library serves.
-pub const ABI: u32 = 1000;
+pub const ABI: u32 = 1001;
 
 /// The number of what a call answered.
 pub fn code<T: Drop>(answer: Result<T, FsError>) -> u32

@@ -10,7 +10,7 @@ ghost use Rattle.pm_outbox.specs.Medium.{MayHold};
 ghost use Rattle.pm_outbox.specs.Outbox.{history, words_of};
 ghost use Rattle.pm_outbox.specs.declared.outbox.OutboxPm.{OutboxPm};
 ghost use Rattle.msa.specs.Calls.{Calls};
-ghost use Rattle.msa.specs.Mounts.{asks_of};
+ghost use Rattle.msa.specs.Mounts.{asks_of, HoldsWords};
 ghost use Rattle.msa.specs.Seats.{mount_in};
 ghost use Rattle.msa.specs.declared.seat.Seat.{Seat};
 
@@ -25,5 +25,5 @@ pub fn a_medium_lands_before_a_call_or_after_it()
 /// A medium that has seen all that was asked holds the words as they read, where nothing is pending: what a call that is done
 /// has made is there.
 pub fn a_medium_that_saw_all_holds_the_words()
-    ensures { (dev : OutboxPm) (image : List ℕ) → NothingPending (Some (history dev)) → MayHold (history dev).start (reverse (asks_of dev)) image → image ≡ words_of dev }
+    ensures { (dev : OutboxPm) → NothingPending (Some (history dev)) → HoldsWords dev }
 {}

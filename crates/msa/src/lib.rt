@@ -14,10 +14,14 @@ mod names;
 mod opening;
 mod parts;
 mod seat;
+mod sending;
 mod shipping;
+mod space;
 mod taking;
+mod texts;
 
 pub use handle::Handle;
 pub use laws::{a_medium_lands_before_a_call_or_after_it, a_medium_that_saw_all_holds_the_words};
 pub use parts::Parts;
-pub use seat::Seat;
+pub use seat::{Seat, Space};
+pub use sending::seat_may_be_sent;

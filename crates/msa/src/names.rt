@@ -24,8 +24,8 @@ fn next_in(seat: &Seat, path: &[u8], after: &[u8]) -> Result<Option<NameBuf>, Fs
     fs.next_entry(path, Some(after))
 }
 
-// Puts bytes at the front of a buffer.
-fn put_front(bytes: &[u8], buffer: &mut [u8])
+/// Puts bytes at the front of a buffer.
+pub fn put_front(bytes: &[u8], buffer: &mut [u8])
     requires { length bytes.now ≤ length buffer.old }
     ensures { buffer.new ≡ bytes.now ++ drop (length bytes.now) buffer.old }
 {

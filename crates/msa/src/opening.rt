@@ -2,11 +2,11 @@
 ghost use Rattle.std.specs.Prelude.{◌≡◌, [], List, ℕ, ◌≤◌, ◌⊎◌, None, Some, Option, MatchResult, MatchOption, IfSome, length};
 ghost use Rattle.ct_pm.specs.Device.{NothingPending};
 ghost use Rattle.pm_outbox.specs.Outbox.{history, words_of};
-ghost use Rattle.msa.specs.Opens.{Closes, Formats, IsImage, IsMissized, Makes, Mounts, Opens, zeros};
+ghost use Rattle.msa.specs.Opens.{Closes, Formats, IsImage, IsMissized, Makes, Mounts, Opens, no_space, zeros};
 
 use crate::codes::{BUSY, CLOSED, MISUSE, NO_MEMORY, why_number};
 use crate::handle::Handle;
-use crate::seat::Seat;
+use crate::seat::{Seat, Space};
 use crate::taking::{put, take};
 use byteorder::{ByteOrder, LittleEndian};
 use ct_base::{LEAST_INODES, MOST_INODES, MOST_PAGES, PAGE_BYTES, PAGE_WORDS};
@@ -27,7 +27,10 @@ fn device(alloc: Global, image: &[u8]) -> Result<OutboxPm, u32>
         return Err(NO_MEMORY);
     };
     LittleEndian::read_u64_into(image, &mut words);
-    Ok(OutboxPm::over(alloc, words, pages))
+    match OutboxPm::over(alloc, words, pages) {
+        Ok(dev) => Ok(dev),
+        Err(_) => Err(NO_MEMORY),
+    }
 }
 
 // The device of so many pages of zeros.
@@ -36,7 +39,7 @@ fn empty_device(alloc: Global, pages: u64) -> Option<OutboxPm>
     ensures { IfSome result (λ dev. (history dev ≡ record { start = zeros pages; steps = [] }) × (words_of dev ≡ zeros pages) × NothingPending (Some (history dev))) }
 {
     match vec![in alloc; 0u64; (PAGE_WORDS * pages) as usize] {
-        Ok(words) => Some(OutboxPm::over(alloc, words, pages)),
+        Ok(words) => OutboxPm::over(alloc, words, pages).ok(),
         Err(_) => None,
     }
 }
@@ -45,17 +48,23 @@ fn empty_device(alloc: Global, pages: u64) -> Option<OutboxPm>
 fn seat_of(fs: Fs<OutboxPm>) -> Seat
     ensures fs { result.fs ≡ Some fs }
     ensures taken { result.taken ≡ 0 }
+    ensures space { result.space ≡ no_space }
 {
     Seat {
         fs: Some(fs),
         taken: 0,
+        space: Space {
+            level: 0,
+            free: 0,
+            need: 0,
+        },
     }
 }
 
 // Puts a file system into a handle.
 fn fs_into(alloc: Global, handle: &mut Handle, fs: Fs<OutboxPm>) -> u32
     requires { handle.old.seat ≡ None }
-    ensures { MatchOption handle.new.seat (result ≡ NO_MEMORY) (λ seat. (seat.fs ≡ Some fs) × (seat.taken ≡ 0) × (result ≡ 0)) }
+    ensures { MatchOption handle.new.seat (result ≡ NO_MEMORY) (λ seat. (seat.fs ≡ Some fs) × (seat.taken ≡ 0) × (result ≡ 0) × (seat.space ≡ no_space)) }
 {
     match Box::new(alloc, seat_of(fs)) {
         Ok(seat) => {

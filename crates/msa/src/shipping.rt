@@ -3,7 +3,7 @@ ghost use Rattle.std.specs.Prelude.{◌≡◌, ◌↔◌, ◌+◌, ◌<◌, ◌�
 ghost use Rattle.ct_call.specs.Mounted.{Volume};
 ghost use Rattle.ct_fs.specs.Mounts.{mounts};
 ghost use Rattle.msa.specs.Mounts.{asks_of};
-ghost use Rattle.msa.specs.Ships.{Begins, Gives, Restarts, Shown, Shows, Takes, entry_of};
+ghost use Rattle.msa.specs.Ships.{Begins, Gives, Promises, Restarts, Shown, Shows, Takes, entry_of};
 ghost use Rattle.msa.specs.Seats.{mount_in};
 ghost use Rattle.msa.specs.declared.shipping.Entry.{Entry};
 
@@ -102,7 +102,7 @@ fn restart_in(seat: &mut Seat)
 }
 
 // Whether all that was asked was taken, and nothing after a fault.
-fn is_at_end(seat: &Seat) -> Option<bool>
+pub fn is_at_end(seat: &Seat) -> Option<bool>
     ensures { MatchOption result (IsNone (mount_in seat.now)) (λ ends. IsSomeAnd (mount_in seat.now) (λ before. IsTrue ends ↔ (seat.now.taken ≡ length (asks_of before.dev)))) }
 {
     match &seat.fs {
@@ -129,10 +129,28 @@ fn show_next(seat: &Seat, entries: &mut [Entry]) -> usize
     }
 }
 
+// Not the device is wanted, but what its contract says: the mount is at rest, so nothing is pending, and the laws on media
+// say what C may promise.
+fn promise_of(fs: &Fs<OutboxPm>)
+    ensures { (before : Volume OutboxPm) → mounts fs.now ≡ Some before → Promises before.dev }
+{
+    let _ = fs.device();
+}
+
+fn promise(seat: &Seat)
+    ensures { (before : Volume OutboxPm) → mount_in seat.now ≡ Some before → Promises before.dev }
+{
+    match &seat.fs {
+        Some(fs) => promise_of(fs),
+        None => unreachable!(),
+    }
+}
+
 // Shows what is asked next and takes it; where all was taken the history begins again.
 fn take_next(seat: &mut Seat, entries: &mut [Entry]) -> usize
     ensures { Gives seat.old seat.new entries.old entries.new result }
 {
+    promise(seat);
     match is_at_end(seat) {
         Some(true) => {
             restart_in(seat);
@@ -148,7 +166,7 @@ fn take_next(seat: &mut Seat, entries: &mut [Entry]) -> usize
 }
 
 /// Takes what the medium has to see next, in order, as much as there is and fits: `count` says how much. Where nothing is
-/// left, all that was taken before is done.
+/// left, all that was taken before is done. Before and after, whatever the medium may hold is what a crash may leave.
 #[unsafe(no_mangle)]
 pub extern "C" fn msa_take(
     alloc: Global,

@@ -1,21 +1,27 @@
 -- What was asked first was asked by the first steps.
-use Rattle.std.proofs.Common.{◌≡◌, ℕ, ◌≤◌, List, [], ◌∷◌, ◌++◌, length, take, reverse, refl, sym, ◌∙◌, ap, subst, inl, inr, arith, length-append}
+use Rattle.std.proofs.Common.{◌≡◌, ℕ, ◌≤◌, Bool, true, false, if◌then◌else◌, List, [], ◌∷◌, ◌++◌, length, take, reverse, refl, sym, ◌∙◌, ap, subst, inl, inr, arith, length-append}
 use Rattle.std.proofs.Math.Seq.{take-append_seam}
 use Rattle.std.proofs.lemmas.Bool.{cases_lt}
 use Rattle.std.proofs.lemmas.List.{append-nil, append_assoc, take-append-le, take_all}
-use Rattle.ct_pm.specs.Images.{first, WasAllowed}
+use Rattle.ct_pm.specs.Images.{first, words_after, WasAllowed}
 use Rattle.ct_pm.specs.declared.step.Step.{Step}
 use Rattle.ct_pm.specs.declared.step.Step.TheVariants.{Store, Flush, Fence}
 use Rattle.ct_pm.proofs.Steps.{first_all, first-push}
 use Rattle.pm_outbox.proofs.Medium.{asked_allowed}
-use Rattle.pm_outbox.specs.Asked.{asked}
+use Rattle.pm_outbox.specs.Asked.{asked, is_marked}
+use Rattle.pm_outbox.specs.Lines.{line_at}
 use Rattle.pm_outbox.specs.declared.ask.Ask.{Ask}
+use Rattle.pm_outbox.specs.declared.ask.Ask.TheVariants.{Write}
 use Rattle.pm_outbox.specs.Medium.{MayHold}
+
+behind_flush : (marked : Bool) (ask : Ask) (asks : List Ask) → (more : List Ask) × ((if marked then asks ++ ask ∷ [] else asks) ≡ asks ++ more) × (length more ≤ 1)
+behind_flush true ask asks = (ask ∷ [], refl, omega arith)
+behind_flush false ask asks = ([], sym (append-nil asks), omega arith)
 
 -- what a step asks stands behind what was asked before it
 behind : (start : List ℕ) (step : Step) (steps : List Step) → (more : List Ask) × (asked start (step ∷ steps) ≡ asked start steps ++ more) × (length more ≤ 1)
 behind start (Store word value) steps = ([], sym (append-nil (asked start steps)), omega arith)
-behind start (Flush line) steps = (_, refl, omega arith)
+behind start (Flush line) steps = behind_flush (is_marked start steps line) (Write line (line_at (words_after start steps) line)) (asked start steps)
 behind start Fence steps = (_, refl, omega arith)
 
 pub grows : (start : List ℕ) (past added : List Step) → (more : List Ask) × (asked start (added ++ past) ≡ asked start past ++ more)

@@ -1,3 +1,4 @@
 pub mod Fronts
+pub mod Marks
 pub mod Medium
 pub mod Start

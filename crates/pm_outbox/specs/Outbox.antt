@@ -1,6 +1,7 @@
 -- What a device with an outbox holds.
-use Rattle.std.specs.Prelude.{ℕ, List}
+use Rattle.std.specs.Prelude.{ℕ, Bool, List}
 use Rattle.ct_pm.specs.Images.{History}
+use Rattle.pm_outbox.specs.Asked.{is_marked}
 use Rattle.pm_outbox.specs.declared.ask.Ask.{Ask}
 use Rattle.pm_outbox.specs.declared.outbox.OutboxPm.{OutboxPm}
 
@@ -22,3 +23,7 @@ outbox_of device = device.asks.items
 -- the start words and the steps
 abbrev pub history : OutboxPm → History
 history device = device.past.past
+
+-- a word of the line has changed since it was asked last
+abbrev pub reads_otherwise : OutboxPm → ℕ → Bool
+reads_otherwise device line = is_marked (history device).start (history device).steps line

@@ -3,14 +3,14 @@ ghost use Rattle.std.specs.Prelude.{◌≡◌, ◌≤◌, ◌++◌, List, ℕ, l
 ghost use Rattle.ct_pm.specs.Images.{IsAllowed, WasAllowed};
 ghost use Rattle.ct_pm.specs.declared.step.Step.{Step};
 ghost use Rattle.pm_outbox.specs.Asked.{asked};
-ghost use Rattle.pm_outbox.specs.Medium.{MayHold};
+ghost use Rattle.pm_outbox.specs.Medium.{AllowsFronts, MayHold};
 
 /// A medium that held the start words holds what the line model allows: after all that the steps asked an image that a crash may
 /// leave after them, and after a front of it one that a crash may have left at some moment. Where the front has all that was
 /// asked up to a step, that moment is not before it.
 pub fn a_medium_holds_what_is_allowed()
     ensures all { (start : List ℕ) (steps : List Step) (image : List ℕ) → MayHold start (reverse (asked start steps)) image → IsAllowed (record { start = start; steps = steps }) image }
-    ensures front { (start : List ℕ) (steps : List Step) (count : ℕ) (image : List ℕ) → MayHold start (reverse (take count (asked start steps))) image → WasAllowed 0 (record { start = start; steps = steps }) image }
+    ensures front { (start : List ℕ) (steps : List Step) → AllowsFronts (record { start = start; steps = steps }) }
     ensures since { (start : List ℕ) (past added : List Step) (count : ℕ) (image : List ℕ) → length (asked start past) ≤ count
         → MayHold start (reverse (take count (asked start (added ++ past)))) image → WasAllowed (length past) (record { start = start; steps = added ++ past }) image }
 {}

@@ -1,29 +1,33 @@
 ghost use Rattle.std.proofs.Common.{arith};
-ghost use Rattle.std.specs.Prelude.{◌≡◌, ◌≤◌, ◌*◌, ◌<◌, ◌+◌, ◌^◌, ◌∷◌, ◌++◌, [], ℕ, Ok, Some, length, OnOk, OnErr, slice_get, slice_index, slice_set};
+ghost use Rattle.std.specs.Prelude.{◌≡◌, ◌≤◌, ◌*◌, ◌<◌, ◌+◌, ◌^◌, ◌/◌, ◌∷◌, ◌++◌, [], ℕ, Ok, Some, false, length, replicate, IfOk, OnOk, OnErr, slice_get, slice_index, slice_index_or, slice_set, if◌then◌else◌};
 ghost use Rattle.ct_base.specs.Causes.{HasCause};
 ghost use Rattle.ct_pm.specs.Images.{words_after};
-ghost use Rattle.pm_outbox.specs.Asked.{asked};
+ghost use Rattle.pm_outbox.specs.Asked.{asked, is_marked};
 ghost use Rattle.ct_base.specs.declared.layout.TheConstants.{MOST_PAGES, PAGE_WORDS};
 ghost use Rattle.pm_outbox.specs.declared.ask.Ask.TheVariants as ask;
 
 use crate::ask::Ask;
 use crate::lines::line_words;
 use crate::past::Past;
-use ct_base::{MOST_PAGES, PAGE_WORDS};
+use ct_base::{MOST_PAGES, NoMemory, PAGE_WORDS};
 use ct_pm::{Pm, PmFault, Step};
 use std::alloc::Global;
 
-/// Words in memory, with an outbox.
+/// Words in memory, with an outbox. A line is marked where a word of it has changed since it was flushed last: a flush of
+/// another line asks nothing.
 #[derive(Drop)]
 pub struct OutboxPm {
     words: Vec<u64>,
     pages: u64,
+    marks: Vec<bool>,
     asks: Vec<Ask>,
     faults: u64,
     past: Past,
     ghost replays: { words.items ≡ words_after past.past.start past.past.steps },
     ghost asked: { asks.items ≡ asked past.past.start past.past.steps },
     ghost whole_pages: { length words.items ≡ PAGE_WORDS * pages },
+    ghost marks_size: { length words.items ≡ 8 * length marks.items },
+    ghost marked: { (line : ℕ) → line < length marks.items → slice_index_or marks.items line false ≡ is_marked past.past.start past.past.steps line },
     ghost words_fit: { (word : ℕ) → slice_index words.items word < 2 ^ 64 },
     ghost few: { pages ≤ MOST_PAGES },
 }
@@ -35,9 +39,27 @@ impl OutboxPm {
     ghost use Rattle.pm_outbox.specs.Outbox.{faults_of, history, outbox_of, pages_of, words_of};
 
     /// The device over words that the medium holds, with nothing asked.
-    pub fn over(alloc: Global, words: Vec<u64>, pages: u64) -> OutboxPm
+    pub fn over(alloc: Global, words: Vec<u64>, pages: u64) -> Result<OutboxPm, NoMemory>
         requires size { length words.items ≡ PAGE_WORDS * pages }
         requires few { pages ≤ MOST_PAGES }
+        ensures words { IfOk result (λ device. words_of device ≡ words.items) }
+        ensures pages { IfOk result (λ device. pages_of device ≡ pages) }
+        ensures history { IfOk result (λ device. history device ≡ record { start = words.items; steps = [] }) }
+        ensures outbox { IfOk result (λ device. outbox_of device ≡ []) }
+        ensures faults { IfOk result (λ device. faults_of device ≡ 0) }
+        ensures settled { IfOk result (λ device. IsSettled (history device)) }
+    {
+        let Ok(marks) = vec![in alloc; false; words.len() / 8] else {
+            return Err(NoMemory);
+        };
+        Ok(OutboxPm::unmarked(alloc, words, pages, marks))
+    }
+
+    // The device over words that the medium holds, with no line marked.
+    fn unmarked(alloc: Global, words: Vec<u64>, pages: u64, marks: Vec<bool>) -> OutboxPm
+        requires size { length words.items ≡ PAGE_WORDS * pages }
+        requires few { pages ≤ MOST_PAGES }
+        requires marks { marks.items ≡ replicate (length words.items / 8) false }
         ensures words { words_of result ≡ words.items }
         ensures pages { pages_of result ≡ pages }
         ensures history { history result ≡ record { start = words.items; steps = [] } }
@@ -49,6 +71,7 @@ impl OutboxPm {
         OutboxPm {
             words,
             pages,
+            marks,
             asks: Vec::new(alloc),
             faults: 0,
             past,
@@ -90,7 +113,7 @@ impl OutboxPm {
 impl Pm for OutboxPm {
     ghost use Rattle.ct_pm.specs.declared.step.Step.TheVariants.{Store, Flush, Fence};
     ghost use Rattle.ct_pm.specs.Device.{AddsStep};
-    ghost use Rattle.pm_outbox.specs.Outbox.{faults_of, history, outbox_of, words_of};
+    ghost use Rattle.pm_outbox.specs.Outbox.{faults_of, history, outbox_of, reads_otherwise, words_of};
     ghost use Rattle.pm_outbox.specs.Lines.{line_at};
 
     ghost words = { λ device. device.words.items };
@@ -126,6 +149,9 @@ impl Pm for OutboxPm {
         ensures step { AddsStep result (Store word value) (Some (history self.old)) (Some (history self.new)) }
     {
         let past = Past::stepped(&self.past, &Step::Store { word, value });
+        if self.words[word as usize] != value {
+            self.marks[word as usize / 8] = true;
+        }
         self.words[word as usize] = value;
         self.past = past;
         Ok(())
@@ -136,13 +162,16 @@ impl Pm for OutboxPm {
         ensures words { words_of self.new ≡ words_of self.old }
         ensures step { AddsStep result (Flush line) (Some (history self.old)) (Some (history self.new)) }
         ensures cause { HasCause (faults_of self.old) (faults_of self.new) result }
-        ensures asked { OnOk result (outbox_of self.new ≡ outbox_of self.old ++ ask.Write line (line_at (words_of self.old) line) ∷ []) }
+        ensures asked { OnOk result (outbox_of self.new ≡ (if reads_otherwise self.old line then outbox_of self.old ++ ask.Write line (line_at (words_of self.old) line) ∷ [] else outbox_of self.old)) }
         ensures kept { OnErr result (outbox_of self.new ≡ outbox_of self.old) }
     {
-        let words = line_words(&self.words, line);
-        if self.asks.push(Ask::Write { line, words }).is_err() {
-            self.faults = self.faults.saturating_add(1);
-            return Err(PmFault);
+        if self.marks[line as usize] {
+            let words = line_words(&self.words, line);
+            if self.asks.push(Ask::Write { line, words }).is_err() {
+                self.faults = self.faults.saturating_add(1);
+                return Err(PmFault);
+            }
+            self.marks[line as usize] = false;
         }
         self.past = Past::stepped(&self.past, &Step::Flush { line });
         Ok(())

@@ -17,6 +17,9 @@ impl Model for Past {
     ghost also_owns = { λ _. ftrue };
 }
 
+// It owns nothing.
+unsafe impl Send for Past {}
+
 impl Past {
     /// Nothing was done yet.
     pub fn start(_words: &[u64]) -> Past

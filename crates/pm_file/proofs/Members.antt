@@ -1,5 +1,5 @@
 -- Which lines are in a set, and which lines are kept.
-use Rattle.std.proofs.Common.{◌≡◌, ◌≢◌, ◌∙◌, ◌⊎◌, inl, inr, ℕ, ◌+◌, ◌-◌, ◌*◌, ◌/◌, ◌%◌, ◌^◌, ◌<◌, List, [], ◌∷◌, ◌++◌, length, get_or, set, sym, ap, subst, arith, bit_and, bit_or, All, get_or-set_other, get_or-set_same}
+use Rattle.std.proofs.Common.{◌≡◌, ◌≢◌, ◌∙◌, inl, inr, ℕ, ◌-◌, ◌/◌, ◌%◌, ◌^◌, ◌<◌, List, [], ◌∷◌, length, get_or, sym, ap, subst, arith, bit_and, bit_or, All, get_or-set_other, get_or-set_same}
 use Rattle.std.specs.Prelude.{Bool, true, false, Contains}
 use Rattle.std.specs.List.{items_where_true}
 use Rattle.std.proofs.lemmas.Bool.{cases_eq}

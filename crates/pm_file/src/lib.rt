@@ -8,6 +8,7 @@
 
 mod attach;
 mod device;
+mod image;
 mod kept;
 mod lines;
 mod lock;
@@ -16,4 +17,5 @@ mod writer;
 
 pub use attach::AttachFault;
 pub use device::FilePm;
+pub use image::read_image;
 pub use lock::FileLock;

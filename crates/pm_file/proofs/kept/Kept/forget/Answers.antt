@@ -1,4 +1,4 @@
-use Rattle.std.proofs.Common.{rules, subst, sym, List, All}
+use Rattle.std.proofs.Common.{rules, subst, sym, All}
 use Rattle.std.specs.Prelude.{Contains}
 use Rattle.std.proofs.lemmas.Fn.{All-from_retain}
 use Rattle.std.proofs.lemmas.List.Elements.{All-contains_itself}

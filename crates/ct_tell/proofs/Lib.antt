@@ -1,0 +1,9 @@
+pub mod Answering
+pub mod Counting
+pub mod EntryLines
+pub mod Judging
+pub mod LookWords
+pub mod NextNames
+pub mod Pieces
+pub mod RuleLines
+pub mod Sums

@@ -5,8 +5,6 @@
 #![tactic(auto)]
 
 #[cfg(test)]
-mod counting;
-#[cfg(test)]
 mod looks;
 #[cfg(test)]
 mod staging;
@@ -14,3 +12,5 @@ mod staging;
 mod tests;
 #[cfg(test)]
 mod volume;
+#[cfg(test)]
+mod wants;

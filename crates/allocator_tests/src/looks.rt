@@ -1,7 +1,7 @@
 // How many words a check of an image looks at.
 
-use crate::counting::CountingPm;
 use check_tests::{answer_on, image};
+use pm_count::CountingPm;
 use std::alloc::Global;
 use std::test::Fail;
 

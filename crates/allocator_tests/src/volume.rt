@@ -15,7 +15,6 @@ ghost use Rattle.ct_pm.specs.Ram.{words_of};
 ghost use Rattle.ct_record.specs.Seen.{count_of};
 ghost use Rattle.allocator_tests.specs.Ready.{HasLive, HasPages, IsApplied, IsEmpty, IsReady};
 
-use crate::counting::CountingPm;
 use ct_base::{
     ADDRESS_END, FIRST_PAGE, MOST_PAGES, NoMemory, PAGE_BYTES, PAGE_WORDS, TOP_LEVEL, Vaddr,
 };
@@ -25,6 +24,7 @@ use ct_level::AnyPart;
 use ct_pm::{Pm, PmFault, RamPm, commit as commit_word};
 use ct_record::{Draft, Idle};
 use ct_walk::{Want, ensure, load_at, missing, walk};
+use pm_count::CountingPm;
 use std::alloc::Global;
 
 /// The partition of a level at an address.

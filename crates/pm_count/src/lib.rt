@@ -1,3 +1,8 @@
+//! A device that counts its calls, for tests that ask how much a call does.
+//!
+//! The one model is the device below: what is counted changes nothing of it.
+#![tactic(auto)]
+
 ghost use Rattle.std.specs.Prelude.{◌≡◌, ◌<◌, OnOk, OnErr, length, slice_set};
 ghost use Rattle.ct_base.specs.Causes.{HasCause};
 ghost use Rattle.ct_pm.specs.declared.step.Step.TheVariants.{Store, Flush, Fence};

@@ -8,6 +8,8 @@ mod cuts;
 #[cfg(test)]
 mod generated;
 #[cfg(test)]
+mod lists;
+#[cfg(test)]
 mod numbers;
 #[cfg(test)]
 mod plans;

@@ -8,7 +8,7 @@ use create_stops::reader::{Entry, holds, is_free};
 use create_stops::rest::PAGES;
 use ct_base::{DIRECTORY_KIND, ENTRY_BYTES};
 use ct_fs::{Fs, FsError, format};
-use ct_pm::Pm;
+use ct_pm::{Pm, Step};
 use pm_fuse::FusePm;
 use pm_trace::TracePm;
 use record_stops::{Steps, steps_since};
@@ -168,6 +168,10 @@ fn outcome_of<D: Pm>(dev: &D, scene: Scene) -> Outcome {
             holds(dev, 1, &[directory(b'd', 2, 0)]) && is_free(dev, 3),
             holds(dev, 1, &[directory(b'd', 2, 1)]) && holds(dev, 2, &[file(b'a', 3)]),
         ),
+        Scene::FirstOfRoot => (
+            holds(dev, 1, &[]) && is_free(dev, 2),
+            holds(dev, 1, &[file(b'a', 2)]),
+        ),
         _ => (
             holds(dev, 1, &[file(b'a', 2), file(b'b', 3)]) && is_free(dev, 4),
             holds(dev, 1, &[file(b'a', 2), file(b'b', 3), file(b'c', 4)]),
@@ -185,9 +189,16 @@ const RECORD_CALLS: u64 = 155;
 
 const GATE: u64 = 101;
 
-// Stops the last call of a scene, which has so many device calls, after each of them. The gate is stored, flushed and fenced.
-fn stop_after_each(rt: &impl Abort, alloc: Global, scene: Scene, calls: u64) -> Result<(), Fail> {
-    let before = run(alloc, scene, false, ENDLESS)?.clock();
+// Stops the last call of a scene after so many of its device calls, where all are `calls`. The gate is stored, flushed and
+// fenced.
+fn stop_after(
+    rt: &impl Abort,
+    alloc: Global,
+    scene: Scene,
+    calls: u64,
+    before: u64,
+    passed: u64,
+) -> Result<(), Fail> {
     let stored = calls
         .saturating_sub(RECORD_CALLS)
         .saturating_add(GATE)
@@ -196,9 +207,15 @@ fn stop_after_each(rt: &impl Abort, alloc: Global, scene: Scene, calls: u64) -> 
         stored,
         fenced: stored.saturating_add(2),
     };
+    let dev = run(alloc, scene, true, before.saturating_add(passed))?;
+    check_images(rt, alloc, &scene, gate, &dev, passed)
+}
+
+// Stops the last call of a scene after each of its device calls.
+fn stop_after_each(rt: &impl Abort, alloc: Global, scene: Scene, calls: u64) -> Result<(), Fail> {
+    let before = run(alloc, scene, false, ENDLESS)?.clock();
     for passed in 0..calls.saturating_add(1) {
-        let dev = run(alloc, scene, true, before.saturating_add(passed))?;
-        check_images(rt, alloc, &scene, gate, &dev, passed)?;
+        stop_after(rt, alloc, scene, calls, before, passed)?;
     }
     Ok(())
 }
@@ -211,4 +228,40 @@ fn an_entry_with_room_stops_after_each_call(rt: HostRuntime) -> Result<(), Fail>
 #[test]
 fn a_first_entry_stops_after_each_call(rt: HostRuntime) -> Result<(), Fail> {
     stop_after_each(&rt, rt.alloc(), Scene::FirstOfDirectory, 753)
+}
+
+// The device calls of the first entry of the root.
+const FIRST_CALLS: u64 = 18_152;
+
+// Whether a step of the device is a fence.
+fn is_fence(dev: &TracePm, i: u64) -> bool {
+    i < dev.clock() && dev.step_at(i) == Step::Fence
+}
+
+#[test]
+fn the_first_entry_of_the_root_stops_by_each_fence(rt: HostRuntime) -> Result<(), Fail> {
+    let alloc = rt.alloc();
+    let scene = Scene::FirstOfRoot;
+    let before = run(alloc, scene, false, ENDLESS)?.clock();
+    let all = run(alloc, scene, true, ENDLESS)?;
+    assert_eq!(rt; all.clock(), before.saturating_add(FIRST_CALLS));
+    for passed in 1..FIRST_CALLS {
+        let here = before.saturating_add(passed);
+        if is_fence(&all, here) || is_fence(&all, here.saturating_sub(1)) {
+            stop_after(&rt, alloc, scene, FIRST_CALLS, before, passed)?;
+        }
+    }
+    Ok(())
+}
+
+#[test]
+fn the_first_entry_of_the_root_stops_after_each_97th_call(rt: HostRuntime) -> Result<(), Fail> {
+    let alloc = rt.alloc();
+    let scene = Scene::FirstOfRoot;
+    let before = run(alloc, scene, false, ENDLESS)?.clock();
+    for stop in 0..FIRST_CALLS / 97 + 1 {
+        let passed = stop.saturating_mul(97);
+        stop_after(&rt, alloc, scene, FIRST_CALLS, before, passed)?;
+    }
+    Ok(())
 }

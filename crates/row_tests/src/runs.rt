@@ -1,7 +1,7 @@
 // Runs of the shell over plain memory: what they write, and how they end.
 ghost use Rattle.std.specs.Prelude.{◌≤◌};
 
-use crate::scripts::{BYTES, ENTRIES, NAMES, PLACES};
+use crate::scripts::{AGAIN, BYTES, ENTRIES, NAMES, PLACES};
 use ct_base::{MOST_PAGES, MemSink, MemSource, NoMemory};
 use ct_fs::{Why, format};
 use ct_pm::RamPm;
@@ -13,7 +13,7 @@ use std::process::Abort;
 use std::test::Fail;
 
 // So many times the byte.
-fn bytes_of(alloc: Global, byte: u8, count: usize) -> Result<Vec<u8>, NoMemory> {
+pub fn bytes_of(alloc: Global, byte: u8, count: usize) -> Result<Vec<u8>, NoMemory> {
     match vec![in alloc; byte; count] {
         Ok(bytes) => Ok(bytes),
         Err(_) => Err(NoMemory),
@@ -34,7 +34,7 @@ fn served(
 }
 
 // Checks how a run ended: its status, and what it wrote.
-fn check<D>(rt: &impl Abort, left: &Left<D>, status: Status, replies: &str) {
+pub fn check<D>(rt: &impl Abort, left: &Left<D>, status: Status, replies: &str) {
     assert_eq!(rt;
         (left.status, left.out.bytes()),
         (status, replies.as_bytes())
@@ -53,6 +53,7 @@ fn check_rows(rt: &impl Abort, alloc: Global, rows: &[(&str, &str)]) -> Result<(
 fn scripts_are_answered(rt: HostRuntime) -> Result<(), Fail> {
     check_rows(&rt, rt.alloc(), &ENTRIES)?;
     check_rows(&rt, rt.alloc(), &BYTES)?;
+    check_rows(&rt, rt.alloc(), &AGAIN)?;
     check_rows(&rt, rt.alloc(), &NAMES)?;
     check_rows(&rt, rt.alloc(), &PLACES)
 }
@@ -111,28 +112,6 @@ fn statuses_have_codes(rt: HostRuntime) {
         Status::TooLong,
     ];
     assert_eq!(rt; statuses.map(|status| status.code()), [0, 3, 4, 5, 6, 8]);
-}
-
-// A line that is a byte longer than lines may be.
-fn long_line(alloc: Global) -> Result<Vec<u8>, Fail> {
-    let mut line = b"create /".to_vec(alloc)?;
-    for _ in 0..65_529 {
-        line.push(b'a')?;
-    }
-    Ok(line)
-}
-
-#[test]
-fn long_scripts_and_lines_have_limits(rt: HostRuntime) -> Result<(), Fail> {
-    let alloc = rt.alloc();
-    for (count, status) in [(16_777_216, Status::Done), (16_777_217, Status::TooLong)] {
-        let script = bytes_of(alloc, b'\n', count)?;
-        let left = served(alloc, script, Vec::new(alloc), Vec::new(alloc))?;
-        check(&rt, &left, status, "");
-    }
-    let left = served(alloc, long_line(alloc)?, Vec::new(alloc), Vec::new(alloc))?;
-    check(&rt, &left, Status::Done, "error line\n");
-    Ok(())
 }
 
 // The first call of the source or of the sink fails.

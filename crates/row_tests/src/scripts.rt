@@ -64,6 +64,30 @@ pub const BYTES: [(&str, &str); 5] = [
     ),
 ];
 
+/// Scripts that look again after each kind of call by which what a mount has learnt is no longer so.
+pub const AGAIN: [(&str, &str); 5] = [
+    (
+        "create /a\nwrite /a 0 4142\nread /a 0 9\nunlink /a\nstat /a\ncreate /a\nstat /a\nread /a 0 9\nwrite /a 0 43\nread /a 0 9",
+        "ok\nok\ndata 4142\nok\nerror not found\nok\nfile 0\ndata\nok\ndata 43\n",
+    ),
+    (
+        "mkdir /d\ncreate /d/b\nwrite /d/b 0 41\nread /d/b 0 9\nunlink /d/b\nrmdir /d\ncreate /e\nwrite /e 0 42\nread /d/b 0 9\nstat /d\nread /e 0 9",
+        "ok\nok\nok\ndata 41\nok\nok\nok\nok\nerror not found\nerror not found\ndata 42\n",
+    ),
+    (
+        "create /a\nwrite /a 0 41\ncreate /b\nwrite /b 0 42\nrename /a /b\nread /b 0 9\nread /a 0 9\nrename /b /a\nread /a 0 9\nstat /b",
+        "ok\nok\nok\nok\nok\ndata 41\nerror not found\nok\ndata 41\nerror not found\n",
+    ),
+    (
+        "create /a\nwrite /a 0 41\nread /a 0 9\nwrite /a 8192 42\nread /a 0 1\nread /a 8191 9\nfill /a 0 2097152 67\nread /a 8192 1\nstat /a",
+        "ok\nok\ndata 41\nok\ndata 41\ndata 0042\nok\ndata 43\nfile 2097152\n",
+    ),
+    (
+        "create /a\ncreate /b\nfill /a 0 4096 65\nfill /b 0 4096 66\nread /a 0 1\nread /b 0 1\nexchange /a 0 /b 0 4096\nread /a 0 1\nread /b 0 1\ntruncate /a 0\nread /a 0 1\nread /b 4095 9",
+        "ok\nok\nok\nok\ndata 41\ndata 42\nok\ndata 42\ndata 41\nok\ndata\ndata 41\n",
+    ),
+];
+
 /// Scripts that tell where a file lies, or how many pages there are: a plain tree has no answer to these.
 pub const PLACES: [(&str, &str); 9] = [
     (
@@ -198,5 +222,6 @@ fn check_rows(rt: &impl Abort, alloc: Global, rows: &[(&str, &str)]) -> Result<(
 fn the_plain_tree_answers(rt: HostRuntime) -> Result<(), Fail> {
     check_rows(&rt, rt.alloc(), &ENTRIES)?;
     check_rows(&rt, rt.alloc(), &BYTES)?;
+    check_rows(&rt, rt.alloc(), &AGAIN)?;
     check_rows(&rt, rt.alloc(), &NAMES)
 }

@@ -91,7 +91,7 @@ fn check_lines(rt: &impl Abort, alloc: Global, piece: usize) -> Result<(), Fail>
     requires { 1 ≤ piece }
 {
     let mut script = b"create /a\n".to_vec(alloc)?;
-    put_line(&mut script, b"", b'x', 65_537, b"\n")?;
+    put_line(&mut script, b"create /", b'a', 65_529, b"\n")?;
     put_line(&mut script, b"write /a 0 ", b'1', 65_524, b"\r\n")?;
     put_line(&mut script, b"write /a 10 ", b'1', 65_524, b"\r\n")?;
     put_line(&mut script, b"stat /a\n", b'x', 200_000, b"\nstat /a\n")?;
@@ -138,6 +138,7 @@ fn lines_have_limits_in_pieces_of_a_line(rt: HostRuntime) -> Result<(), Fail> {
 
 #[test]
 fn a_script_may_have_so_many_bytes_one_by_one(rt: HostRuntime) -> Result<(), Fail> {
+    check_alike(&rt, rt.alloc(), b'\n', 0, 1, Status::Done)?;
     check_alike(&rt, rt.alloc(), b'\n', MOST, 1, Status::Done)
 }
 
